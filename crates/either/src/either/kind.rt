@@ -36,7 +36,7 @@ pub impl<P: Kind, Q: Kind> Kind for Either<P, Q> as EitherKind {
     ghost meets = { either-meets (P·Kind .laws) (Q·Kind .laws) (P·Kind .meets) (Q·Kind .meets) };
 
     fn greatest() -> Either<P, Q> {
-        Either::Any
+        Self::Any
     }
 
     fn at_or_below(self, other: Either<P, Q>) -> bool {

@@ -154,7 +154,7 @@ pub impl Kind for Catalogue as CatalogueKind {
     ghost meets = { catalogue-meets };
 
     fn greatest() -> Catalogue {
-        Catalogue::Thing
+        KINDS[0]
     }
 
     fn at_or_below(self, other: Catalogue) -> bool {

@@ -17,18 +17,6 @@ impl Range {
             Err(RangeForm { low, high })
         }
     }
-
-    pub fn low(self) -> i32
-        ensures { λ r. ⌜ r ≡ self .low ⌝ }
-    {
-        self.low
-    }
-
-    pub fn high(self) -> i32
-        ensures { λ r. ⌜ r ≡ self .high ⌝ }
-    {
-        self.high
-    }
 }
 
 pub impl Kind for Range as RangeKind {
