@@ -1,5 +1,7 @@
 // Ranges as a type of kind: the order is inclusion, and the meet is the common part.
 ghost use mathlib.Core.Path.{_≡_};
+ghost use Rattle.std.specs.Numbers.{maxZ, minZ};
+ghost use Rattle.std.specs.Results.{okPart};
 ghost use Rattle.ranges.specs.Ranges.{Inside, widest, made, overlap, form-of, range-of};
 ghost use Rattle.ranges.specs.RangeLaws.{range-laws, range-meets};
 use crate::range::Range;
@@ -17,6 +19,27 @@ impl Range {
             Err(RangeForm { low, high })
         }
     }
+}
+
+// The greater of the low ends, where the common part of two ranges begins.
+fn common_low(a: Range, b: Range) -> i32
+    ensures { λ r. ⌜ r ≡ maxZ (a .low) (b .low) ⌝ }
+{
+    a.low.max(b.low)
+}
+
+// The lesser of the high ends, where it ends.
+fn common_high(a: Range, b: Range) -> i32
+    ensures { λ r. ⌜ r ≡ minZ (a .high) (b .high) ⌝ }
+{
+    a.high.min(b.high)
+}
+
+// The range from `low` to `high`, if there is one.
+fn range_if(low: i32, high: i32) -> Option<Range>
+    ensures { λ r. ⌜ r ≡ okPart (made low high) ⌝ }
+{
+    Range::new(low, high).ok()
 }
 
 pub impl Kind for Range as RangeKind {
@@ -48,7 +71,7 @@ pub impl Kind for Range as RangeKind {
     }
 
     fn meet(self, other: Range) -> Option<Range> {
-        Range::new(self.low.max(other.low), self.high.min(other.high)).ok()
+        range_if(common_low(self, other), common_high(self, other))
     }
 
     fn store(self) -> RangeForm {
@@ -59,6 +82,6 @@ pub impl Kind for Range as RangeKind {
     }
 
     fn read(stored: RangeForm) -> Option<Range> {
-        Range::new(stored.low, stored.high).ok()
+        range_if(stored.low, stored.high)
     }
 }
