@@ -1,0 +1,5 @@
+pub mod Figures
+pub mod Readings
+pub mod Spelt
+pub mod Order
+pub mod Rest
