@@ -1,0 +1,6 @@
+mod Answering
+mod Counting
+mod Numbered
+mod Deciding
+mod Forming
+pub mod Showing
