@@ -1,0 +1,12 @@
+pub mod Scanning
+pub mod Merging
+pub mod Making
+pub mod Asking
+pub mod Closing
+pub mod Nets
+pub mod Common
+pub mod Building
+pub mod Numbering
+pub mod Existing
+pub mod Finite
+pub mod Working

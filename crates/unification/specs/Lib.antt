@@ -1,0 +1,4 @@
+pub mod Merge
+pub mod Scan
+pub mod Theorems
+pub mod Examples
