@@ -1,0 +1,5 @@
+mod Filling
+mod Opened
+pub mod Answering
+pub mod Blanks
+pub mod Added

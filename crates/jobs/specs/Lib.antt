@@ -1,0 +1,5 @@
+pub mod Contents
+pub mod Sound
+pub mod Jobs
+pub mod Faults
+pub mod Adding
