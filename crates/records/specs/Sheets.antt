@@ -28,6 +28,11 @@ Slot s p f q = Edge (s .places) (s .slots) p f q
 abbrev pub Formed : {K : Type 0} → Sheet K → Type 0
 Formed s = WellFormed (s .places) (s .slots)
 
+-- the place p is reached from the root by slots
+pub data Reached {K : Type 0} (s : Sheet K) : ℕ → Type 0 where
+  root : Reached s 0
+  along : {p q : ℕ} (f : ℕ) → Reached s p → Slot s p f q → Reached s q
+
 module _ {K F : Type 0} {below : K → K → Type 0} {top : K} {form : K → F} {kind : F → Option K} (laws : KindLaws below top form kind) where
   -- the record of no place: the greatest kind and zeros
   abbrev pub blank-place : PlaceRecord F

@@ -5,7 +5,7 @@ use mathlib.Core.Logic.{_⊎_}
 use Prim.Native.Nat.{ℕ, _<_}
 use Rattle.std.specs.declared.option.Option.{Option}
 use Rattle.kinds.specs.Laws.{KindLaws}
-use Rattle.records.specs.Sheets.{Sheet, size, Formed, blank-sheet}
+use Rattle.records.specs.Sheets.{Sheet, size, Formed, Reached, blank-sheet}
 use Rattle.records.specs.Satisfaction.{Satisfies}
 use Rattle.unification.specs.Merge.{IsMerge, Clash, Made, Standing, Merged, Clashing}
 
@@ -13,6 +13,10 @@ use Rattle.unification.specs.Merge.{IsMerge, Clash, Made, Standing, Merged, Cl
 pub record Alike {K : Type 0} (l l′ : List (Sheet K)) : Type 0 where
   pub there : (a : Sheet K) → On a l → On a l′
   pub back : (a : Sheet K) → On a l′ → On a l
+
+-- Every place of a sheet is reached from the root.
+abbrev pub AllReached : Type 0 → Type 0
+AllReached K = (s : Sheet K) → Formed s → (p : ℕ) → p < size s → Reached s p
 
 module _ {K F : Type 0} {below : K → K → Type 0} {top : K} {form : K → F} {kind : F → Option K} (laws : KindLaws below top form kind) where
   -- ---- sheets

@@ -2,11 +2,12 @@
 // unification of psi-terms.) The functions have no code of their own: the contract of each is a group of laws, for every type of kind.
 ghost use Rattle.unification.specs.Examples.{Worked};
 ghost use Rattle.unification.specs.Scan.{Scanned};
-ghost use Rattle.unification.specs.Theorems.{Unique, OneImage, Greatest, OnlyMerge, Refused, OneMerge, Exists, NotBoth, Exact, Enough, Stands, OneStanding, AnyOrder, ClashAnyOrder, Decided};
+ghost use Rattle.unification.specs.Theorems.{AllReached, Unique, OneImage, Greatest, OnlyMerge, Refused, OneMerge, Exists, NotBoth, Exact, Enough, Stands, OneStanding, AnyOrder, ClashAnyOrder, Decided};
 use kinds::kind::Kind;
 
-// A sheet is told by what it satisfies and what satisfies it, and its numbering by a scan of its slots.
+// Every place of a sheet is reached; a sheet is told by what it satisfies and what satisfies it, and its numbering by a scan.
 pub fn laws_of_sheets<K: Kind>()
+    ensures reached { λ _. ⌜ AllReached K ⌝ }
     ensures unique { λ _. ⌜ Unique (K·Kind .laws) ⌝ }
     ensures image { λ _. ⌜ OneImage (K·Kind .laws) ⌝ }
     ensures numbering { λ _. ⌜ Scanned ⌝ }
