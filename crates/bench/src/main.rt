@@ -1,4 +1,6 @@
 // Measures merges: `bench run` prints how many microseconds each of four merges takes, with up to 1,000 places side by side.
+#![tactic(auto)]
+
 use self::table::{Table, chain, chain_back, chain_to_ring, ring, tree};
 use anyhow::anyhow;
 use jobs::{Job, job_over};

@@ -1,4 +1,6 @@
 // Prints the catalogue for the bench: each kind with its code, then what each two kinds have in common.
+#![tactic(auto)]
+
 ghost use Rattle.kinds.specs.Catalogue.{shared};
 ghost use Rattle.catalogue.specs.Answers.{answer};
 ghost use Rattle.std.specs.Prelude.{◌≡◌};

@@ -1,2 +1,4 @@
 // The kinds of two types side by side, under one greatest kind.
+#![tactic(auto)]
+
 pub mod either;

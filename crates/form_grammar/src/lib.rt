@@ -1,4 +1,6 @@
 // The grammar of a form, and what the reader's answers mean in its words.
+#![tactic(auto)]
+
 ghost use Rattle.form_grammar.specs.FormLines.{Accepts, Refuses};
 ghost use Rattle.form_grammar.specs.FormRules.{ByRules, EndByRules};
 ghost use Rattle.form_grammar.specs.FormLeast.{RefusesLeast, AcceptsOthers, KindHasRoom};

@@ -1,4 +1,6 @@
 // The grammar of a place, and what the reader's answers mean in its words.
+#![tactic(auto)]
+
 ghost use Rattle.grammar.specs.Lines.{Accepts, Refuses};
 ghost use Rattle.grammar.specs.Rules.{ByRules, EndByRules};
 ghost use Rattle.grammar.specs.Least.{RefusesLeast, AcceptsOthers, RangeIsNoKind};

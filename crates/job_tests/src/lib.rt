@@ -1,4 +1,6 @@
 // Jobs opened by callers on tables of their own: what the callers then know of each table, and runs at both sides of each limit.
+#![tactic(auto)]
+
 ghost use Rattle.std.specs.Prelude.{◌≡◌, min, [], ◌∷◌, length};
 ghost use Rattle.records.specs.Tables.{blank_slot};
 ghost use Rattle.records.specs.Sheets.{blank_place};

@@ -1,5 +1,7 @@
 // A job: a sheet that is being worked on, in seven tables that its caller lends. A job owns no memory. `job_over!` makes a closed
 // job over the caller's tables, and `open` begins it.
+#![tactic(auto)]
+
 pub mod fault;
 pub mod job;
 mod tables;

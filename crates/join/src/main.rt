@@ -1,5 +1,7 @@
 // Merges sheets that are built in, on a job over tables of its own: two strikers, the tie of their volts, then south as a tune,
 // which clashes, and as an outdoor one. After each step it prints the standing records as a table.
+#![tactic(auto)]
+
 use self::built_in::{strikers, tied_volts};
 use self::draft::{Draft, OrderKind, path_of};
 use self::standing::print_standing;

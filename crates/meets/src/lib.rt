@@ -1,5 +1,7 @@
 // The meets of classes: joined places become one place, whose kind is the meet of theirs. Some class may have none, and then
 // the sheets that are merged clash.
+#![tactic(auto)]
+
 ghost use Rattle.std.specs.Prelude.{◌≡◌, ◌<◌, true, false, length};
 ghost use Rattle.meets.specs.Classes.{Apart, Classes, Kept, Met, MetInto, NoMeet, kind_held};
 

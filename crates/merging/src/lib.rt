@@ -1,5 +1,7 @@
 // The merge core: the standing sheet and an ask are put side by side in the work tables, joined, given the meets of their kinds and
 // numbered, and the result is written over the standing sheet. Called by jobs alone: what it requires is what a job's invariant gives.
+#![tactic(auto)]
+
 mod uniting;
 
 ghost use Rattle.std.specs.Prelude.{◌≡◌, ℕ, ◌+◌, ◌<◌, ◌≤◌, length, take, slice_index};

@@ -1,5 +1,7 @@
 // Names of slots and their numbers. A name is 1 to 12 bytes, and in tables it is a number of 64 bits: its bytes as twelve
 // figures in base 38. Each name has one number, and each such number one name.
+#![tactic(auto)]
+
 pub mod number;
 pub mod spelling;
 

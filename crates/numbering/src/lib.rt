@@ -1,6 +1,8 @@
 // Numbering: the classes of joined places are written into output tables, each class a place, in canonical numbering. (The field
 // says quotient graph.) Classes are taken by rising number and their slots by rising name, and a class that a slot leads to for the
 // first time gets the next number.
+#![tactic(auto)]
+
 mod members;
 mod numbers;
 mod picking;

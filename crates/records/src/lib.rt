@@ -1,5 +1,7 @@
 // The records of a sheet, and what a table of them says. A sheet is what the field calls a rooted sorted feature graph, or
 // psi-term: a place is a node, and a slot is a feature, an edge with a name.
+#![tactic(auto)]
+
 ghost use Rattle.std.specs.Prelude.{◌≡◌, ◌+◌};
 ghost use Rattle.records.specs.Tables.{blank_slot, count_at, first_at};
 ghost use Rattle.records.specs.Sheets.{blank_place};

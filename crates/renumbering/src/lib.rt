@@ -1,5 +1,7 @@
 // Numbering a draft anew: the same graph in canonical numbering, each place a class of its own.
 // To read in this order: drafts (whether tables hold a draft), then the numbering here.
+#![tactic(auto)]
+
 mod drafts;
 
 ghost use Rattle.std.specs.Prelude.{◌≡◌, ◌≤◌, length, is_some, Decides};

@@ -1,5 +1,7 @@
 // What is shown reads back as the same sheet. The function has no code of its own: its contract has the laws, for every type of kind
 // and every vocabulary.
+#![tactic(auto)]
+
 ghost use Rattle.restating.specs.Back.{ReadsBack, OneSheet};
 
 use kinds::kind::Kind;

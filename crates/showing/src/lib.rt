@@ -3,6 +3,8 @@
 //
 // fault: why show is refused, with its number. tags: which places have tags. walk: depth first from the root. writing: the pieces of
 // the text.
+#![tactic(auto)]
+
 ghost use Rattle.records.specs.Sheets.{sheet_of};
 ghost use Rattle.sheets.specs.Refusals.{Answered, refusal};
 ghost use Rattle.sheets.specs.Shown.{shown_places, shown_slots};

@@ -1,5 +1,7 @@
 // What merging is: the merge of two sheets, when they clash, and what a merge can be counted on for. (The field says
 // unification of psi-terms.) The functions have no code of their own: the contract of each is a group of laws, for every type of kind.
+#![tactic(auto)]
+
 ghost use Rattle.unification.specs.Examples.{Worked};
 ghost use Rattle.unification.specs.Scan.{Scanned};
 ghost use Rattle.unification.specs.Theorems.{AllReached, Unique, OneImage, Greatest, OnlyMerge, Refused, OneMerge, Exists, NotBoth, Exact, Enough, Stands, OneStanding, AnyOrder, ClashAnyOrder, Decided};
