@@ -35,13 +35,13 @@ module _ {K F : Type 0} {below : K → K → Type 0} {top : K} {form : K → F} 
   form_read k = ap (λ o. unwrap_or o top) (laws.reads k)
 
   -- the kind of a place is what its form reads as, whatever kind is read past the table
-  pub kind_at : (d : K) (ps : List (PlaceRecord F)) (p : ℕ) → kind_at d (map (read_place laws) ps) p ≡ loaded laws (kind_at (form d) ps p)
-  kind_at d [] p = sym (form_read d)
-  kind_at d (r ∷ ps) zero = refl
-  kind_at d (r ∷ ps) (suc p) = kind_at d ps p
+  pub kind_at_lem : (d : K) (ps : List (PlaceRecord F)) (p : ℕ) → kind_at d (map (read_place laws) ps) p ≡ loaded laws (kind_at (form d) ps p)
+  kind_at_lem d [] p = sym (form_read d)
+  kind_at_lem d (r ∷ ps) zero = refl
+  kind_at_lem d (r ∷ ps) (suc p) = kind_at_lem d ps p
 
   pub kind_read : (ps : List (PlaceRecord F)) (p : ℕ) → kind_at top (map (read_place laws) ps) p ≡ loaded laws (kind_at (form top) ps p)
-  kind_read = kind_at top
+  kind_read = kind_at_lem top
 
   module _ (s : Sheet F) where
     pub slot_read : (p f q : ℕ) → Slot s p f q → Slot (readings s) p f q
