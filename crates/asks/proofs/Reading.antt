@@ -5,7 +5,7 @@ use Rattle.records.specs.declared.PlaceRecord.{PlaceRecord}
 use Rattle.records.specs.Tables.{first_at, count_at, kind_at, target_at}
 use Rattle.records.specs.Sheets.{Sheet, size, width, read_place, sheet_of}
 use Rattle.records.specs.Beside.{Beside}
-use Rattle.records.proofs.Reading.{same_size, same_first, same_count, form_read, kind_at}
+use Rattle.records.proofs.Reading.{same_size, same_first, same_count, form_read, kind_at_lem}
 use Rattle.asks.specs.Asks.{moved_place, moved_slot, chained}
 use Rattle.asks.specs.Theorems.{held, AddRead, AddBeside}
 
@@ -39,16 +39,16 @@ module _ {K F : Type 0} {below : K → K → Type 0} {top : K} {form : K → F} 
         places = omega arith;
         slots = b.slots;
         kind_left = λ d x h.
-            kind_at laws d w.places x ∙ ap (loaded laws) (b.kind_left (form d) x (omega arith)) ∙ sym (kind_at laws d s.places x);
+            kind_at_lem laws d w.places x ∙ ap (loaded laws) (b.kind_left (form d) x (omega arith)) ∙ sym (kind_at_lem laws d s.places x);
         first_left = λ x h. same_first laws w.places x ∙ b.first_left x (omega arith) ∙ sym (same_first laws s.places x);
         count_left = λ x h. same_count laws w.places x ∙ b.count_left x (omega arith) ∙ sym (same_count laws s.places x);
         name_left = b.name_left;
         target_left = b.target_left;
         kind_right = λ d x h.
             ap (kind_at d (held laws w).places) (to x)
-            ∙ kind_at laws d w.places (size s + x)
+            ∙ kind_at_lem laws d w.places (size s + x)
             ∙ ap (loaded laws) (b.kind_right (form d) x (in_t x h))
-            ∙ sym (kind_at laws d t.places x);
+            ∙ sym (kind_at_lem laws d t.places x);
         first_right = λ x h.
             ap (first_at (held laws w).places) (to x)
             ∙ same_first laws w.places (size s + x)

@@ -1,7 +1,6 @@
 // Asks: the sheet that each stands for, and how it is laid beside the standing sheet in the work tables.
 #![tactic(auto)]
 
-
 // The sheet of an add, and its laws.
 mod add;
 

@@ -1,7 +1,7 @@
 // The sheets of the program that have more than one place.
 use crate::draft::{Draft, OrderKind};
 use anyhow::anyhow;
-use either_kind::either_kind::Either;
+use either_kind::either::Either;
 use kinds::catalogue::Catalogue;
 use ranges::range::Range;
 use std::alloc::Global;

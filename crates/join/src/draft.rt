@@ -3,7 +3,7 @@ ghost use Rattle.std.specs.Prelude.{IfOk, Some};
 ghost use Rattle.names.specs.Names.{NumberOf};
 
 use anyhow::anyhow;
-use either_kind::either_kind::{Either, EitherForm};
+use either_kind::either::{Either, EitherForm};
 use kinds::catalogue::Catalogue;
 use kinds::kind::Kind;
 use names::number::number_of;

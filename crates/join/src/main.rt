@@ -7,7 +7,7 @@ use self::draft::{Draft, OrderKind, path_of};
 use self::standing::print_standing;
 use self::text::reply_text;
 use anyhow::anyhow;
-use either_kind::either_kind::Either;
+use either_kind::either::Either;
 use jobs::{Job, job_over};
 use kinds::catalogue::Catalogue;
 use kinds::kind::Kind;

@@ -3,7 +3,7 @@ ghost use Rattle.std.specs.Prelude.{◌≡◌, IfOk, string_bytes};
 ghost use Rattle.join.specs.Texts.{kind_text, reply_text};
 
 use crate::draft::OrderKind;
-use either_kind::either_kind::Either;
+use either_kind::either::Either;
 use jobs::fault::JobFault;
 use kinds::catalogue::Catalogue;
 use kinds::kind::Kind;

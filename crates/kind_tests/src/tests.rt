@@ -1,5 +1,5 @@
 // Each test is named by what it shows.
-use either_kind::either_kind::{Either, EitherForm};
+use either_kind::either::{Either, EitherForm};
 use kinds::catalogue::Catalogue;
 use kinds::kind::Kind;
 use ranges::range::{Range, RangeForm};

@@ -10,7 +10,7 @@ use Rattle.records.specs.declared.Counts.{Counts}
 use Rattle.records.specs.Tables.{Edge, name_at, target_at}
 use Rattle.records.specs.Tables as tables
 use Rattle.records.specs.Sheets.{Sheet, sheet_of}
-use Rattle.records.proofs.Reading.{same_size, kind_at, form_read, slot_read, read_slot, formed_read}
+use Rattle.records.proofs.Reading.{same_size, kind_at_lem, form_read, slot_read, read_slot, formed_read}
 use Rattle.records.proofs.Shape.{owner}
 use Rattle.numbering.specs.Quotient.{Quotient}
 use Rattle.renumbering.specs.Drafts.{Renumbered}
@@ -75,7 +75,7 @@ module _ {K F : Type 0} {below : K → K → Type 0} {top : K} {form : K → F} 
           within = λ x lt. omega (arith, long, many, q.within x (omega arith));
           inside = λ p lt. omega (arith, long, many, back_in p (omega arith));
           onto = λ p lt. back_class p (omega arith);
-          kinds = λ k x lt. kind_at laws k outp (q.class x) ∙ ap (loaded laws) (q.kinds (form k) x (omega arith) ∙ arranged.kinds (form k) k x (omega arith)) ∙ form_read laws (kind_at k d.places x);
+          kinds = λ k x lt. kind_at_lem laws k outp (q.class x) ∙ ap (loaded laws) (q.kinds (form k) x (omega arith) ∙ arranged.kinds (form k) k x (omega arith)) ∙ form_read laws (kind_at k d.places x);
           edges = λ x f y a. slot_read laws s (q.class x) f (q.class y) (q.edges x f y (arranged.edges x f y a));
           only = λ p f r e. arrow p f r (read_slot laws s p f r e);
         }

@@ -65,15 +65,15 @@ number_of_minus n le =
     cond-true _ _ _ (and_from (well_formed true (decimal (suc n))) (in_range true (value (decimal (suc n)))) f (le-leb _ 2147483648 (omega arith))) ∙ ap (λ k. Some (neg_ℤ (pos k))) v
 
 -- the digits of n stand at place j, and the number that they belong to begins at place i
-number_at : (minus : Bool) (n : ℕ) (z : ℤ) (rest : List ℕ) (i j : ℕ) → n < 2 ^ 64 → number_of minus (decimal n) ≡ Some z → run Digit rest ≡ 0 → number_at minus (decimal n ++ rest) i j ≡ token (number z) i (j + length (decimal n))
-number_at minus n z rest i j small o e =
+number_at_lem : (minus : Bool) (n : ℕ) (z : ℤ) (rest : List ℕ) (i j : ℕ) → n < 2 ^ 64 → number_of minus (decimal n) ≡ Some z → run Digit rest ≡ 0 → number_at minus (decimal n ++ rest) i j ≡ token (number z) i (j + length (decimal n))
+number_at_lem minus n z rest i j small o e =
     let r = run_append Digit (decimal n) rest (digits_in (decimal n) (digits_written n small)) e in
     (λ k. number_token (number_of minus (take (r k) (decimal n ++ rest))) i (j + r k)) ∙
     ap (λ l. number_token (number_of minus l) i (j + length (decimal n))) (take_at (decimal n) rest _ refl) ∙
     ap (λ o. number_token o i (j + length (decimal n))) o
 
 pub number_back : (n : ℕ) (rest : List ℕ) (i : ℕ) → n ≤ 2147483647 → run Digit rest ≡ 0 → number_at false (decimal n ++ rest) i i ≡ token (number (pos n)) i (i + length (decimal n))
-number_back n rest i le e = number_at false n (pos n) rest i i (omega arith) (number_of_decimal n le) e
+number_back n rest i le e = number_at_lem false n (pos n) rest i i (omega arith) (number_of_decimal n le) e
 
 pub minus_back : (n : ℕ) (rest : List ℕ) (i : ℕ) → n ≤ 2147483647 → run Digit rest ≡ 0 → number_at true (decimal (suc n) ++ rest) i (i + 1) ≡ token (number (negsuc n)) i (i + 1 + length (decimal (suc n)))
-minus_back n rest i le e = number_at true (suc n) (negsuc n) rest i (i + 1) (omega arith) (number_of_minus n le) e
+minus_back n rest i le e = number_at_lem true (suc n) (negsuc n) rest i (i + 1) (omega arith) (number_of_minus n le) e

@@ -7,7 +7,7 @@ ghost use Rattle.vocabulary.specs.OrdersLaws.{orders_laws};
 
 use crate::vocabulary::{KindText, Vocabulary};
 use crate::words::{catalogued, is_any};
-use either_kind::either_kind::Either;
+use either_kind::either::Either;
 use kinds::catalogue::Catalogue;
 use ranges::range::Range;
 

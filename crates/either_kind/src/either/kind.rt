@@ -5,7 +5,7 @@ ghost use Rattle.either_kind.specs.Either.{Under, joint, form_of, kind_of, unuse
 ghost use Rattle.either_kind.specs.EitherLaws.{either_laws, either_meets};
 ghost use Rattle.either_kind.specs.declared.either.Either.TheVariants.{Any};
 
-use crate::either_kind::{Either, EitherForm};
+use crate::either::{Either, EitherForm};
 use kinds::kind::Kind;
 
 // Whether this is the form of the greatest kind, as a part that is not in use has it.

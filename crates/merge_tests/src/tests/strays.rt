@@ -1,6 +1,6 @@
 // Kinds of the either of catalogue and range, and stored forms that are no kind's.
 use super::drawings::{A, B, slot};
-use either_kind::either_kind::{Either, EitherForm};
+use either_kind::either::{Either, EitherForm};
 use jobs::{Job, job_over};
 use kinds::catalogue::Catalogue;
 use kinds::kind::Kind;

@@ -10,14 +10,14 @@ use Rattle.asks.proofs.laying.copy_places.Goals as goal
 read : (g : _) (c : goal.After-index-from-i g) → c.index-from-i.result.before ≡ first_at c.args.from.now c.loop-i.i
 read g c = mapped_read (λ r. r.before) c.args.from.now c.loop-i.i c.index-from-i.result 0 c.loop-i-test.true c.index-from-i.is
 
-pub overflow-cast-places : goal.overflow-cast-places
-overflow-cast-places g c = let e = read g c in omega (arith, e, c.requires.fits c.loop-i.i c.loop-i-test.true)
+pub overflow_cast-places : goal.overflow_cast-places
+overflow_cast-places g c = let e = read g c in omega (arith, e, c.requires.fits c.loop-i.i c.loop-i-test.true)
 
-pub overflow-add-places : goal.overflow-add-places
-overflow-add-places g c = let e = read g c in omega (arith, e, c.requires.fits c.loop-i.i c.loop-i-test.true)
+pub overflow_add-places : goal.overflow_add-places
+overflow_add-places g c = let e = read g c in omega (arith, e, c.requires.fits c.loop-i.i c.loop-i-test.true)
 
-pub overflow-cast-places-in-loop-i : goal.overflow-cast-places-in-loop-i
-overflow-cast-places-in-loop-i g c = let e = read g c in omega (arith, e, c.requires.fits c.loop-i.i c.loop-i-test.true)
+pub overflow_cast-places-in-loop-i : goal.overflow_cast-places-in-loop-i
+overflow_cast-places-in-loop-i g c = let e = read g c in omega (arith, e, c.requires.fits c.loop-i.i c.loop-i-test.true)
 
 pub loop-i-init : goal.loop-i-init
 loop-i-init g c = paste_none c.args.places.now c.args.at (map (moved_place c.args.by) c.args.from.now)

@@ -14,8 +14,8 @@ loop-i-init g c = (
       (walked_none c.args.places.now c.args.slots.now c.requires.tables.0 c.args.x c.args.y c.args.links.now c.requires.forest),
 )
 
-pub overflow-add-i : goal.overflow-add-i
-overflow-add-i g c = omega (arith, c.loop-i-test.true, c.past_slot-i_end.type-inv)
+pub overflow_add-i : goal.overflow_add-i
+overflow_add-i g c = omega (arith, c.loop-i-test.true, c.past_slot-i_end.type_inv)
 
 pub loop-i-preserved-then-s-t : goal.loop-i-preserved-then-s-t
 loop-i-preserved-then-s-t g c = (
@@ -47,8 +47,8 @@ join-changed-requires g c =
       );
     }
 
-pub overflow-add-i-else-t-s : goal.overflow-add-i-else-t-s
-overflow-add-i-else-t-s g c = omega (arith, c.loop-i-test.true, c.past_slot-i_end.type-inv)
+pub overflow_add-i-else-t-s : goal.overflow_add-i-else-t-s
+overflow_add-i-else-t-s g c = omega (arith, c.loop-i-test.true, c.past_slot-i_end.type_inv)
 
 pub loop-i-preserved : goal.loop-i-preserved
 loop-i-preserved g c = (

@@ -15,36 +15,36 @@ returns-then-not-begins_name c = record {
   example = refl;
 }
 
-pub returns-in-err-number : goal.returns-in-err-number
-returns-in-err-number c = record {
-  answer = simp c.from-residual.ensures (λ n. c.in-err-number.ensures (n.others c.loop-byte.byte-index c.loop-byte-test.true));
+pub returns-in_err-number : goal.returns-in_err-number
+returns-in_err-number c = record {
+  answer = simp c.from_residual.ensures (λ n. c.in_err-number.ensures (n.others c.loop-byte.byte-index c.loop-byte-test.true));
   laws = number_laws;
   example = refl;
 }
 
 -- the number so far with the next byte
 more :
-    (c : goal.In-ok-number)
-    → c.loop-byte.number + c.in-ok-number.field-0 * (c.loop-byte.weight / 38)
+    (c : goal.In_ok-number)
+    → c.loop-byte.number + c.in_ok-number.field-0 * (c.loop-byte.weight / 38)
     ≡ number (take (c.loop-byte.byte-index + 1) c.args.bytes.now)
 more c =
-    number_more c.args.bytes.now c.loop-byte.byte-index c.loop-byte.number c.in-ok-number.field-0 c.loop-byte.weight
-    c.loop-byte-test.true c.loop-byte.invariant.0 c.loop-byte.invariant.2 c.in-ok-number.ensures.1 c.loop-byte.invariant.3
+    number_more c.args.bytes.now c.loop-byte.byte-index c.loop-byte.number c.in_ok-number.field-0 c.loop-byte.weight
+    c.loop-byte-test.true c.loop-byte.invariant.0 c.loop-byte.invariant.2 c.in_ok-number.ensures.1 c.loop-byte.invariant.3
 
-bytes_more : (c : goal.In-ok-number) → All NameByte (take (c.loop-byte.byte-index + 1) c.args.bytes.now)
+bytes_more : (c : goal.In_ok-number) → All NameByte (take (c.loop-byte.byte-index + 1) c.args.bytes.now)
 bytes_more c =
-    All-more NameByte c.args.bytes.now c.loop-byte.byte-index 0 c.loop-byte-test.true c.loop-byte.invariant.1 c.in-ok-number.ensures.0
+    All-more NameByte c.args.bytes.now c.loop-byte.byte-index 0 c.loop-byte-test.true c.loop-byte.invariant.1 c.in_ok-number.ensures.0
 
-small : (c : goal.In-ok-number) → c.loop-byte.number + c.in-ok-number.field-0 * (c.loop-byte.weight / 38) < 38 ^ 12
+small : (c : goal.In_ok-number) → c.loop-byte.number + c.in_ok-number.field-0 * (c.loop-byte.weight / 38) < 38 ^ 12
 small c =
     let t = length-take-le (c.loop-byte.byte-index + 1) c.args.bytes.now (omega arith) in
     rw (more c) (reading_lt 12 (take (c.loop-byte.byte-index + 1) c.args.bytes.now) (omega arith) (bytes_more c))
 
-pub overflow-mul-number : goal.overflow-mul-number
-overflow-mul-number c = omega (arith, small c)
+pub overflow_mul-number : goal.overflow_mul-number
+overflow_mul-number c = omega (arith, small c)
 
-pub overflow-add-number : goal.overflow-add-number
-overflow-add-number c = omega (arith, small c)
+pub overflow_add-number : goal.overflow_add-number
+overflow_add-number c = omega (arith, small c)
 
 pub loop-byte-preserved : goal.loop-byte-preserved
 loop-byte-preserved c =

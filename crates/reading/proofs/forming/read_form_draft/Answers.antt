@@ -17,31 +17,31 @@ use Rattle.reading.proofs.forming.read_form_draft.Goals.{In-Some}
 
 -- the token that was read
 here : (g : given.Over) (c : In-Some g) → token (meant c.in-Some.x.token) c.in-Some.x.start c.in-Some.x.end ≡ next_token c.args.line.now c.loop-x.from
-here g c = ap (λ o. answer (Ok o)) (sym c.in-Some.is) ∙ c.in-ok-x.ensures.answer
+here g c = ap (λ o. answer (Ok o)) (sym c.in-Some.is) ∙ c.in_ok-x.ensures.answer
 
-pub returns-in-err-checked_length : goal.returns-in-err-checked_length
-returns-in-err-checked_length g c =
-    let p = err_from_is_err_and c.from-residual.result c.from-residual.ensures.1 in
+pub returns-in_err-checked_length : goal.returns-in_err-checked_length
+returns-in_err-checked_length g c =
+    let p = err_from_is_err_and c.from_residual.result c.from_residual.ensures.1 in
     record {
       is =
-          ap (λ r. form_came r c.args.places.now c.args.slots.now c.args.one.now) p.1 ∙ ap faulted (p.2 ∙ ap Text c.in-err-checked_length.ensures.1) ∙
-          too_long g.V.Vocabulary.words g.V.Vocabulary.ranges _ _ _ c.in-err-checked_length.ensures.0;
+          ap (λ r. form_came r c.args.places.now c.args.slots.now c.args.one.now) p.1 ∙ ap faulted (p.2 ∙ ap Text c.in_err-checked_length.ensures.1) ∙
+          too_long g.V.Vocabulary.words g.V.Vocabulary.ranges _ _ _ c.in_err-checked_length.ensures.0;
       within = form_within_err _ _ _ _ _ p.1;
     }
 
 pub loop-x-init : goal.loop-x-init
 loop-x-init g c = (
-  left_start g.V.Vocabulary.words g.V.Vocabulary.ranges _ _ _ _ (λ i. record { stage = stage.Begin; first = c.empty.ensures i; second = c.empty-2.ensures i; draft = nothing }) c.in-ok-checked_length.ensures,
+  left_start g.V.Vocabulary.words g.V.Vocabulary.ranges _ _ _ _ (λ i. record { stage = stage.Begin; first = c.empty.ensures i; second = c.empty-2.ensures i; draft = nothing }) c.in_ok-checked_length.ensures,
   record { single = c.requires.few.1.1; holds = (refl, held_none c.args.places.now c.args.slots.now c.new-look.result c.requires.few.0 c.requires.few.1.0 c.new-look.ensures) },
 )
 
-pub returns-in-err-x : goal.returns-in-err-x
-returns-in-err-x g c =
-    let p = err_from_is_err_and c.from-residual-in-err-x.result c.from-residual-in-err-x.ensures.1 in
+pub returns-in_err-x : goal.returns-in_err-x
+returns-in_err-x g c =
+    let p = err_from_is_err_and c.from_residual-in_err-x.result c.from_residual-in_err-x.ensures.1 in
     record {
       is =
           ap (λ r. form_came r c.loop-x.places c.loop-x.slots c.loop-x.one) p.1 ∙ ap faulted p.2 ∙
-          left_fault g.V.Vocabulary.words g.V.Vocabulary.ranges c.loop-x.invariant.0 (text_number c.in-err-x.field-0.0) (text_byte c.in-err-x.field-0.0) c.in-err-x.ensures.answer ∙
+          left_fault g.V.Vocabulary.words g.V.Vocabulary.ranges c.loop-x.invariant.0 (text_number c.in_err-x.field-0.0) (text_byte c.in_err-x.field-0.0) c.in_err-x.ensures.answer ∙
           same_room g.V.Vocabulary.words g.V.Vocabulary.ranges _ _ _ _ _ c.loop-x.auto.places c.loop-x.auto.slots;
       within = form_within_err _ _ _ _ _ p.1;
     }
@@ -49,13 +49,13 @@ returns-in-err-x g c =
 pub form_step-requires : goal.form_step-requires
 form_step-requires g c = record { within = c.loop-x.invariant.1; worded = next_worded c.args.line.now c.loop-x.from _ _ _ (here g (goal.at.form_step-requires g c).In-Some) }
 
-pub returns-in-err-form : goal.returns-in-err-form
-returns-in-err-form g c =
-    let p = err_from_is_err_and c.from-residual-in-err-form.result c.from-residual-in-err-form.ensures.1 in
+pub returns-in_err-form : goal.returns-in_err-form
+returns-in_err-form g c =
+    let p = err_from_is_err_and c.from_residual-in_err-form.result c.from_residual-in_err-form.ensures.1 in
     record {
       is =
           ap (λ r. form_came r c.form_step.new.places c.form_step.new.slots c.form_step.new.one) p.1 ∙ ap faulted p.2 ∙
-          left_step_fault g.V.Vocabulary.words g.V.Vocabulary.ranges c.loop-x.invariant.0 _ _ _ c.in-err-form.field-0.0 (here g (goal.at.returns-in-err-form g c).In-Some) c.in-err-form.ensures.is ∙
+          left_step_fault g.V.Vocabulary.words g.V.Vocabulary.ranges c.loop-x.invariant.0 _ _ _ c.in_err-form.field-0.0 (here g (goal.at.returns-in_err-form g c).In-Some) c.in_err-form.ensures.is ∙
           same_room g.V.Vocabulary.words g.V.Vocabulary.ranges _ _ _ _ _ c.loop-x.auto.places c.loop-x.auto.slots;
       within = form_within_err _ _ _ _ _ p.1;
     }
@@ -63,15 +63,15 @@ returns-in-err-form g c =
 pub loop-x-preserved : goal.loop-x-preserved
 loop-x-preserved g c = (
   left_room g.V.Vocabulary.words g.V.Vocabulary.ranges _ _ _ _ (sym c.form_step.auto.places) (sym c.form_step.auto.slots)
-      (left_more g.V.Vocabulary.words g.V.Vocabulary.ranges c.loop-x.invariant.0 _ _ _ _ (here g (goal.at.loop-x-preserved g c).In-Some) c.in-ok-form.ensures.is),
-  c.in-ok-form.ensures.fits,
+      (left_more g.V.Vocabulary.words g.V.Vocabulary.ranges c.loop-x.invariant.0 _ _ _ _ (here g (goal.at.loop-x-preserved g c).In-Some) c.in_ok-form.ensures.is),
+  c.in_ok-form.ensures.fits,
 )
 
 pub returns : goal.returns
 returns g c = record {
   is =
       c.end_form.ensures.is ∙
-      left_end g.V.Vocabulary.words g.V.Vocabulary.ranges c.loop-x.invariant.0 (ap (λ o. answer (Ok o)) (sym c.in-default.is) ∙ c.in-ok-x.ensures.answer) ∙
+      left_end g.V.Vocabulary.words g.V.Vocabulary.ranges c.loop-x.invariant.0 (ap (λ o. answer (Ok o)) (sym c.in_default.is) ∙ c.in_ok-x.ensures.answer) ∙
       same_room g.V.Vocabulary.words g.V.Vocabulary.ranges _ _ _ _ _ c.loop-x.auto.places c.loop-x.auto.slots;
   within = form_within c.end_form.result c.loop-x.places c.loop-x.slots c.loop-x.one c.loop-x.look c.end_form.ensures.fits;
 }

@@ -8,8 +8,8 @@ use Rattle.showing.proofs.tags.count_leading.Goals as goal
 pub loop-slot-init : goal.loop-slot-init
 loop-slot-init c = (refl, λ p h. get_or-replicate 1000 p 0 0 h)
 
-pub overflow-add-leading : goal.overflow-add-leading
-overflow-add-leading c =
+pub overflow_add-leading : goal.overflow_add-leading
+overflow_add-leading c =
     let ss = c.args.slots.now in
     let i : ℕ = c.loop-slot.slot-index in
     let low = c.requires.1 i (omega arith) in

@@ -4,8 +4,8 @@ use Rattle.showing.proofs.Tagging.{marked_more, marked_few}
 use Rattle.showing.proofs.tags.count_tags.Goals as goal
 use Rattle.showing.proofs.tags.count_tags.Goals.{then-has_tag, else-has_tag}
 
-pub overflow-add-tags : goal.overflow-add-tags
-overflow-add-tags c = omega (arith, marked_few c.args.leading.now c.loop-p.p, c.loop-p.invariant)
+pub overflow_add-tags : goal.overflow_add-tags
+overflow_add-tags c = omega (arith, marked_few c.args.leading.now c.loop-p.p, c.loop-p.invariant)
 
 pub loop-p-preserved : goal.loop-p-preserved
 loop-p-preserved c =

@@ -12,25 +12,25 @@ returns-then-start-line c = record {
   ahead = tt;
 }
 
-pub returns-in-err-token : goal.returns-in-err-token
-returns-in-err-token c =
-    let p = err_from_is_err_and c.from-residual.result c.from-residual.ensures.1 in
-    let a = next_is c.args.line.now c.args.from c.run_end-start.result c.run_end-start.ensures.value (refused c.in-err-token.field-0.0) c.if-start-line.false c.in-err-token.ensures in
+pub returns-in_err-token : goal.returns-in_err-token
+returns-in_err-token c =
+    let p = err_from_is_err_and c.from_residual.result c.from_residual.ensures.1 in
+    let a = next_is c.args.line.now c.args.from c.run_end-start.result c.run_end-start.ensures.value (refused c.in_err-token.field-0.0) c.if-start-line.false c.in_err-token.ensures in
     rw (p.1, p.2) (record { answer = a.0; bytes = tt; ahead = a.1 })
 
-stands : (c : goal.After-token·1) → Ahead c.run_end-start.result (length c.args.line.now) (token (meant c.in-ok-token.token) c.run_end-start.result c.in-ok-token.end)
-stands c = at_ahead c.args.line.now c.run_end-start.result _ c.if-start-line.false c.in-ok-token.ensures
+stands : (c : goal.After-result-1) → Ahead c.run_end-start.result (length c.args.line.now) (token (meant c.in_ok-token.token) c.run_end-start.result c.in_ok-token.end)
+stands c = at_ahead c.args.line.now c.run_end-start.result _ c.if-start-line.false c.in_ok-token.ensures
 
-pub slice-bounds-result-start : goal.slice-bounds-result-start
-slice-bounds-result-start c = let a = stands c in omega arith
+pub slice_bounds-result-start : goal.slice_bounds-result-start
+slice_bounds-result-start c = let a = stands c in omega arith
 
-pub slice-bounds-result-end : goal.slice-bounds-result-end
-slice-bounds-result-end c = let a = stands c in omega arith
+pub slice_bounds-result-end : goal.slice_bounds-result-end
+slice_bounds-result-end c = let a = stands c in omega arith
 
-pub slice-bounds-result-count : goal.slice-bounds-result-count
-slice-bounds-result-count c = let a = stands c in omega arith
+pub slice_bounds-result-count : goal.slice_bounds-result-count
+slice_bounds-result-count c = let a = stands c in omega arith
 
 pub returns : goal.returns
 returns c =
-    let a = next_is c.args.line.now c.args.from c.run_end-start.result c.run_end-start.ensures.value (token (meant c.in-ok-token.token) c.run_end-start.result c.in-ok-token.end) c.if-start-line.false c.in-ok-token.ensures in
+    let a = next_is c.args.line.now c.args.from c.run_end-start.result c.run_end-start.ensures.value (token (meant c.in_ok-token.token) c.run_end-start.result c.in_ok-token.end) c.if-start-line.false c.in_ok-token.ensures in
     record { answer = a.0; bytes = refl; ahead = a.1 }

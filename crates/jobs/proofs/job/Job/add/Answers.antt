@@ -21,18 +21,18 @@ use Rattle.jobs.proofs.Blanks.{worked_same, worked_blank, replaced_blank}
 use Rattle.std.proofs.lemmas.Bool.{false≢true}
 use Rattle.jobs.proofs.job.Job.add.Goals as goal
 
-pub returns-in-err-admit : goal.returns-in-err-admit
-returns-in-err-admit g c =
+pub returns-in_err-admit : goal.returns-in_err-admit
+returns-in_err-admit g c =
     let laws = g.K.Kind.laws in
     let j = c.args.self.now in
     let path = c.args.path.now in
     let sheet = c.args.sheet.now in
     let clash = merge.Clash laws (standing_sheet laws j) (ask_of laws path sheet) in
     let none = NoSheet laws (standing_sheet laws j) (ask_of laws path sheet) in
-    let fault : JobFault = c.in-err-admit.field-0.0 in
-    let p = err_from_is_err_and c.from-residual.result c.from-residual.ensures.1 in
-    let e : Err fault ≡ c.from-residual.result = sym (p.1 ∙ ap Err p.2) in
-    let early = c.in-err-admit.ensures.answer in
+    let fault : JobFault = c.in_err-admit.field-0.0 in
+    let p = err_from_is_err_and c.from_residual.result c.from_residual.ensures.1 in
+    let e : Err fault ≡ c.from_residual.result = sym (p.1 ∙ ap Err p.2) in
+    let early = c.in_err-admit.ensures.answer in
     record {
       answer = subst (λ (r : Result Counts JobFault). Answered (add_checks j path sheet clash) (refusal fault_number r)) e (still_refused (room_checks j path sheet) (32, clash) (fault_number fault) early);
       clash = subst (λ (r : Result Counts JobFault). Answered (add_checks j path sheet none) (refusal fault_number r)) e (still_refused (room_checks j path sheet) (32, none) (fault_number fault) early);
@@ -48,7 +48,7 @@ merge-made-requires g c =
     let j = c.args.self.now in
     let path = c.args.path.now in
     let sheet = c.args.sheet.now in
-    let ready : Ready j path sheet = c.in-ok-admit.ensures.ready refl in
+    let ready : Ready j path sheet = c.in_ok-admit.ensures.ready refl in
     let places : j.places.now ≡ c.take-places.result.now = search rules in
     let slots : j.slots.now ≡ c.take-slots.result.now = search rules in
     let work_places : j.work_places.now ≡ c.take-work_places.result.now = search rules in
@@ -86,7 +86,7 @@ invariant-of-self g c =
     let j = c.args.self.now in
     let path = c.args.path.now in
     let sheet = c.args.sheet.now in
-    let ready : Ready j path sheet = c.in-ok-admit.ensures.ready refl in
+    let ready : Ready j path sheet = c.in_ok-admit.ensures.ready refl in
     let places : c.take-places.result.now ≡ j.places.now = search rules in
     let slots : c.take-slots.result.now ≡ j.slots.now = search rules in
     let work_places : c.take-work_places.result.now ≡ j.work_places.now = search rules in
@@ -124,7 +124,7 @@ returns-in-Some g c =
     let j = c.args.self.now in
     let path = c.args.path.now in
     let sheet = c.args.sheet.now in
-    let ready : Ready j path sheet = c.in-ok-admit.ensures.ready refl in
+    let ready : Ready j path sheet = c.in_ok-admit.ensures.ready refl in
     let places : c.take-places.result.now ≡ j.places.now = search rules in
     let slots : c.take-slots.result.now ≡ j.slots.now = search rules in
     let work_places : c.take-work_places.result.now ≡ j.work_places.now = search rules in
@@ -143,7 +143,7 @@ returns-in-Some g c =
     let links_kept : c.merge-made.new.links ≡ j.links.now = c.in-Some.ensures.links ∙ links in
     let clash = merge.Clash laws (standing_sheet laws j) (ask_of laws path sheet) in
     let none = NoSheet laws (standing_sheet laws j) (ask_of laws path sheet) in
-    let passed = c.in-ok-admit.ensures.answer in
+    let passed = c.in_ok-admit.ensures.answer in
     let held = c.in-Some.ensures.answer in
     let is : merge.IsMerge laws (standing_sheet laws j) (ask_of laws path sheet) (sheet_of laws (take c.in-Some.counts.places c.merge-made.new.places) (take c.in-Some.counts.slots c.merge-made.new.slots)) =
     subst (λ (s : Sheet g.row.K.Denot). merge.IsMerge laws s (ask_of laws path sheet) (sheet_of laws (take c.in-Some.counts.places c.merge-made.new.places) (take c.in-Some.counts.slots c.merge-made.new.slots))) standing
@@ -193,7 +193,7 @@ returns-in-None g c =
     let j = c.args.self.now in
     let path = c.args.path.now in
     let sheet = c.args.sheet.now in
-    let ready : Ready j path sheet = c.in-ok-admit.ensures.ready refl in
+    let ready : Ready j path sheet = c.in_ok-admit.ensures.ready refl in
     let places : c.take-places.result.now ≡ j.places.now = search rules in
     let slots : c.take-slots.result.now ≡ j.slots.now = search rules in
     let work_places : c.take-work_places.result.now ≡ j.work_places.now = search rules in
@@ -212,7 +212,7 @@ returns-in-None g c =
     let links_kept : c.merge-made.new.links ≡ j.links.now = c.in-None.ensures.links ∙ links in
     let clash = merge.Clash laws (standing_sheet laws j) (ask_of laws path sheet) in
     let none = NoSheet laws (standing_sheet laws j) (ask_of laws path sheet) in
-    let passed = c.in-ok-admit.ensures.answer in
+    let passed = c.in_ok-admit.ensures.answer in
     let clashes : clash =
     subst (λ (s : Sheet g.row.K.Denot). merge.Clash laws s (ask_of laws path sheet)) standing
     (subst (λ (t : Sheet g.row.K.Denot). merge.Clash laws (sheet_of laws (take n c.take-places.result.now) (take m c.take-slots.result.now)) t) ask c.in-None.ensures.answer) in

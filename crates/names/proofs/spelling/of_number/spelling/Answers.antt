@@ -24,13 +24,13 @@ loop-rest-init c = record {
   whole = spelt_start c.args.number;
 }
 
-pub nonzero-div-rest : goal.nonzero-div-rest
-nonzero-div-rest c = rest_weight c.loop-rest.invariant c.loop-rest-test.true
+pub nonzero_div-rest : goal.nonzero_div-rest
+nonzero_div-rest c = rest_weight c.loop-rest.invariant c.loop-rest-test.true
 
-pub returns-in-err-bytes : goal.returns-in-err-bytes
-returns-in-err-bytes c = record {
-  answer = simp c.from-residual.ensures (rest_zero c.loop-rest.invariant c.loop-rest-test.true c.in-err-bytes.ensures);
-  spelt = simp c.from-residual.ensures tt;
+pub returns-in_err-bytes : goal.returns-in_err-bytes
+returns-in_err-bytes c = record {
+  answer = simp c.from_residual.ensures (rest_zero c.loop-rest.invariant c.loop-rest-test.true c.in_err-bytes.ensures);
+  spelt = simp c.from_residual.ensures tt;
   laws = there_and_back;
 }
 
@@ -42,8 +42,8 @@ loop-rest-smaller c = omega (arith, rest_room c.loop-rest.invariant c.loop-rest-
 
 pub loop-rest-preserved : goal.loop-rest-preserved
 loop-rest-preserved c =
-    let f = c.in-ok-bytes.ensures in
-    rest_more c.in-ok-bytes.field-0 c.loop-rest.invariant c.loop-rest-test.true f.0 f.2
+    let f = c.in_ok-bytes.ensures in
+    rest_more c.in_ok-bytes.field-0 c.loop-rest.invariant c.loop-rest-test.true f.0 f.2
 
 pub returns : goal.returns
 returns c =

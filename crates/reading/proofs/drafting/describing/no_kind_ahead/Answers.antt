@@ -16,16 +16,16 @@ module _ {K : Type 0} (ranges : ℤ → ℤ → Option K) (line : List ℕ) wher
   abbrev dots : ℤ → ℕ → Bool
   dots a j = on_next (next_token line j) false (λ x i j. on_mark 46 x (high a j) false) (λ n b. false)
 
-pub returns-in-default : goal.returns-in-default
-returns-in-default g c = c.in-default.ensures (dots g.V.Vocabulary.ranges c.args.line.now)
+pub returns-in_default : goal.returns-in_default
+returns-in_default g c = c.in_default.ensures (dots g.V.Vocabulary.ranges c.args.line.now)
 
-pub returns-in-default-dots_ahead : goal.returns-in-default-dots_ahead
-returns-in-default-dots_ahead g c =
-    c.in-default-dots_ahead.ensures (high g.V.Vocabulary.ranges c.args.line.now c.in-Some.low) ∙ c.in-Some.ensures (dots g.V.Vocabulary.ranges c.args.line.now)
+pub returns-in_default-dots_ahead : goal.returns-in_default-dots_ahead
+returns-in_default-dots_ahead g c =
+    c.in_default-dots_ahead.ensures (high g.V.Vocabulary.ranges c.args.line.now c.in-Some.low) ∙ c.in-Some.ensures (dots g.V.Vocabulary.ranges c.args.line.now)
 
-pub returns-in-default-number_ahead : goal.returns-in-default-number_ahead
-returns-in-default-number_ahead g c =
-    c.in-default-number_ahead.ensures (ends g.V.Vocabulary.ranges c.args.line.now c.in-Some.low) ∙
+pub returns-in_default-number_ahead : goal.returns-in_default-number_ahead
+returns-in_default-number_ahead g c =
+    c.in_default-number_ahead.ensures (ends g.V.Vocabulary.ranges c.args.line.now c.in-Some.low) ∙
     c.in-Some-dots_ahead.ensures (high g.V.Vocabulary.ranges c.args.line.now c.in-Some.low) ∙
     c.in-Some.ensures (dots g.V.Vocabulary.ranges c.args.line.now)
 

@@ -15,7 +15,7 @@ pub returns-then-cur-places : goal.returns-then-cur-places
 returns-then-cur-places g c = record {
   is =
       range_room g.V.Vocabulary.words g.V.Vocabulary.ranges c.args.look.now.described c.args.tag (draft c.args.cur c.args.places.now c.args.slots.now) c.requires.looks.tags
-      c.args.places.now c.args.cur.places c.requires.places_fit refl c.args.byte c.args.from c.args.line.now c.in-default.ensures c.if-cur-places.true;
+      c.args.places.now c.args.cur.places c.requires.places_fit refl c.args.byte c.args.from c.args.line.now c.in_default.ensures c.if-cur-places.true;
   fits = c.requires;
 }
 
@@ -23,7 +23,7 @@ pub returns-then-no_kind_ahead : goal.returns-then-no_kind_ahead
 returns-then-no_kind_ahead g c = record {
   is =
       range_no_kind g.V.Vocabulary.words g.V.Vocabulary.ranges c.args.look.now.described c.args.tag (draft c.args.cur c.args.places.now c.args.slots.now) c.requires.looks.tags
-      c.args.places.now c.args.cur.places c.requires.places_fit refl c.args.byte c.args.from c.args.line.now c.in-default.ensures c.if-cur-places.false c.if-no_kind_ahead.ensures;
+      c.args.places.now c.args.cur.places c.requires.places_fit refl c.args.byte c.args.from c.args.line.now c.in_default.ensures c.if-cur-places.false c.if-no_kind_ahead.ensures;
   fits = tt;
 }
 
@@ -31,6 +31,6 @@ pub returns-else-no_kind_ahead : goal.returns-else-no_kind_ahead
 returns-else-no_kind_ahead g c = record {
   is =
       range_full g.V.Vocabulary.words g.V.Vocabulary.ranges c.args.look.now.described c.args.tag (draft c.args.cur c.args.places.now c.args.slots.now) c.requires.looks.tags
-      c.args.places.now c.args.cur.places c.requires.places_fit refl c.args.byte c.args.from c.args.line.now c.in-default.ensures c.if-cur-places.false c.if-no_kind_ahead.ensures;
+      c.args.places.now c.args.cur.places c.requires.places_fit refl c.args.byte c.args.from c.args.line.now c.in_default.ensures c.if-cur-places.false c.if-no_kind_ahead.ensures;
   fits = tt;
 }

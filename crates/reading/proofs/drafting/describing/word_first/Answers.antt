@@ -15,7 +15,7 @@ pub returns-in-Some-word : goal.returns-in-Some-word
 returns-in-Some-word g c = record {
   is =
       word_kind g.V.Vocabulary.words g.V.Vocabulary.ranges c.args.look.now.described c.args.tag (draft c.args.cur c.args.places.now c.args.slots.now) c.requires.looks.tags
-      (length c.args.places.now) c.args.byte c.args.word.now c.in-Some-word.kind _ c.in-default.ensures c.in-Some-word.ensures.value c.push_place.ensures.is;
+      (length c.args.places.now) c.args.byte c.args.word.now c.in-Some-word.kind _ c.in_default.ensures c.in-Some-word.ensures.value c.push_place.ensures.is;
   fits = c.push_place.ensures.fits;
 }
 
@@ -23,6 +23,6 @@ pub returns-in-None : goal.returns-in-None
 returns-in-None g c = record {
   is =
       word_no_kind g.V.Vocabulary.words g.V.Vocabulary.ranges c.args.look.now.described c.args.tag (draft c.args.cur c.args.places.now c.args.slots.now) c.requires.looks.tags
-      (length c.args.places.now) c.args.byte c.args.word.now c.in-default.ensures c.in-None.ensures.value;
+      (length c.args.places.now) c.args.byte c.args.word.now c.in_default.ensures c.in-None.ensures.value;
   fits = tt;
 }

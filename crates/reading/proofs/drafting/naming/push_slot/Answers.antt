@@ -7,8 +7,8 @@ use Rattle.reading.proofs.Words.{long_word}
 use Rattle.reading.proofs.Holding.{held_slot}
 use Rattle.reading.proofs.drafting.naming.push_slot.Goals as goal
 
-pub returns-in-default : goal.returns-in-default
-returns-in-default g c = record { is = slot_long _ (draft c.args.cur c.args.places.now c.args.slots.now) _ _ (long_word _ c.requires.worded c.in-default.ensures.answer); fits = tt }
+pub returns-in_default : goal.returns-in_default
+returns-in_default g c = record { is = slot_long _ (draft c.args.cur c.args.places.now c.args.slots.now) _ _ (long_word _ c.requires.worded c.in_default.ensures.answer); fits = tt }
 
 pub returns : goal.returns
 returns g c = record {

@@ -51,8 +51,8 @@ returns-in-Path g c =
       fits = bracket_fits f ps ss one c.args.look.now 40 x b (stage.InPath v) _ c.opened-in-Path.ensures c.requires.within.single (held_at f ps ss one _ (stage.Path v) c.requires.within c.in-Path.is);
     }
 
-pub returns-in-default : goal.returns-in-default
-returns-in-default g c =
+pub returns-in_default : goal.returns-in_default
+returns-in_default g c =
     let f = c.args.form in
     let x = meant c.args.x.token in
     let b = c.args.x.start in
@@ -65,7 +65,7 @@ returns-in-default g c =
     record {
       is =
           at_stage f ps ss one g.V.Vocabulary.words g.V.Vocabulary.ranges _ _ _ _ _ _ (stage.InPath v) _ c.in-InPath.is
-          (bracket f ps ss one 41 x b (stage.InPath v) (after_path v) _ e (after_path_draft f ps ss one v h.0) ∙ sym (no_word c.args.x.token _ _ c.in-default.not-Word));
+          (bracket f ps ss one 41 x b (stage.InPath v) (after_path v) _ e (after_path_draft f ps ss one v h.0) ∙ sym (no_word c.args.x.token _ _ c.in_default.not-Word));
       fits = bracket_fits f ps ss one c.args.look.now 41 x b (after_path v) _ e c.requires.within.single (after_path_holds f ps ss one _ v c.requires.within.single h);
     }
 
@@ -82,8 +82,8 @@ returns-in-SecondPath g c =
       fits = bracket_fits f ps ss one c.args.look.now 40 x b stage.InSecondPath _ c.opened-in-SecondPath.ensures c.requires.within.single tt;
     }
 
-pub returns-in-default-token : goal.returns-in-default-token
-returns-in-default-token g c =
+pub returns-in_default-token : goal.returns-in_default-token
+returns-in_default-token g c =
     let f = c.args.form in
     let x = meant c.args.x.token in
     let b = c.args.x.start in
@@ -93,8 +93,8 @@ returns-in-default-token g c =
     record {
       is =
           at_stage f ps ss one g.V.Vocabulary.words g.V.Vocabulary.ranges _ _ _ _ _ _ stage.InSecondPath _ c.in-InSecondPath.is
-          (bracket f ps ss one 41 x b stage.InSecondPath (stage.Close Tie) _ c.closed-in-default-token.ensures refl ∙ sym (no_word c.args.x.token _ _ c.in-default-token.not-Word));
-      fits = bracket_fits f ps ss one c.args.look.now 41 x b (stage.Close Tie) _ c.closed-in-default-token.ensures c.requires.within.single tt;
+          (bracket f ps ss one 41 x b stage.InSecondPath (stage.Close Tie) _ c.closed-in_default-token.ensures refl ∙ sym (no_word c.args.x.token _ _ c.in_default-token.not-Word));
+      fits = bracket_fits f ps ss one c.args.look.now 41 x b (stage.Close Tie) _ c.closed-in_default-token.ensures c.requires.within.single tt;
     }
 
 pub returns-in-Done : goal.returns-in-Done
@@ -112,8 +112,8 @@ returns-in-Done g c =
       fits = bracket_fits f ps ss one c.args.look.now 41 x b (stage.Closed Add) _ c.closed-in-Done.ensures c.requires.within.single (held_at f ps ss one _ stage.Place c.requires.within c.in-Place.is);
     }
 
-pub returns-in-ok-cur : goal.returns-in-ok-cur
-returns-in-ok-cur g c =
+pub returns-in_ok-cur : goal.returns-in_ok-cur
+returns-in_ok-cur g c =
     let f = c.args.form in
     let x = meant c.args.x.token in
     let b = c.args.x.start in
@@ -121,28 +121,28 @@ returns-in-ok-cur g c =
     let ss = c.args.slots.now in
     let one = c.args.one.now in
     record {
-      is = place_more f ps ss one g.V.Vocabulary.words g.V.Vocabulary.ranges _ _ _ _ _ _ c.in-ok-cur.cur c.step.new.places c.step.new.slots c.in-Place.is c.in-default-mode.not-Done c.in-ok-cur.ensures.is;
-      fits = place_fits f ps ss one c.in-ok-cur.cur c.step.new.places c.step.new.slots _ c.in-Place.is c.requires.within.single c.in-ok-cur.ensures.fits;
+      is = place_more f ps ss one g.V.Vocabulary.words g.V.Vocabulary.ranges _ _ _ _ _ _ c.in_ok-cur.cur c.step.new.places c.step.new.slots c.in-Place.is c.in_default-mode.not-Done c.in_ok-cur.ensures.is;
+      fits = place_fits f ps ss one c.in_ok-cur.cur c.step.new.places c.step.new.slots _ c.in-Place.is c.requires.within.single c.in_ok-cur.ensures.fits;
     }
 
-pub returns-in-err-cur : goal.returns-in-err-cur
-returns-in-err-cur g c =
+pub returns-in_err-cur : goal.returns-in_err-cur
+returns-in_err-cur g c =
     let f = c.args.form in
     let x = meant c.args.x.token in
     let b = c.args.x.start in
     let ps = c.args.places.now in
     let ss = c.args.slots.now in
     let one = c.args.one.now in
-    let p = err_from_is_err_and c.from-residual-in-err-cur.result c.from-residual-in-err-cur.ensures.1 in
+    let p = err_from_is_err_and c.from_residual-in_err-cur.result c.from_residual-in_err-cur.ensures.1 in
     record {
       is =
           ap (λ r. form_came r c.step.new.places c.step.new.slots one) p.1 ∙ ap faulted p.2 ∙
-          place_fault f ps ss one g.V.Vocabulary.words g.V.Vocabulary.ranges _ _ _ _ _ _ _ c.in-Place.is c.in-default-mode.not-Done c.in-err-cur.ensures.is;
+          place_fault f ps ss one g.V.Vocabulary.words g.V.Vocabulary.ranges _ _ _ _ _ _ _ c.in-Place.is c.in_default-mode.not-Done c.in_err-cur.ensures.is;
       fits = subst (λ r. FormHeldOk r c.step.new.places c.step.new.slots one c.step.new.look) (sym p.1) tt;
     }
 
-pub returns-in-ok-cur-2 : goal.returns-in-ok-cur-2
-returns-in-ok-cur-2 g c =
+pub returns-in_ok-cur-2 : goal.returns-in_ok-cur-2
+returns-in_ok-cur-2 g c =
     let f = c.args.form in
     let x = meant c.args.x.token in
     let b = c.args.x.start in
@@ -154,13 +154,13 @@ returns-in-ok-cur-2 g c =
     record {
       is =
           at_stage f ps ss one w r _ _ _ _ _ _ stage.Kind _ c.in-Kind.is
-          (narrow_more f ps ss one stage.Kind _ c.in-ok-cur-2.cur c.kind_first_lem.new.places [] _ c.after_kind.ensures refl
-          (c.in-ok-cur-2.ensures.is ∙ ap (λ n. kind_first w r n c.args.line.now None (draft f.cur one []) (meant c.args.x.token) c.args.x.start c.args.x.end) c.requires.within.single));
-      fits = narrow_fits f ps ss one _ c.in-ok-cur-2.cur c.kind_first_lem.new.places [] _ c.after_kind.ensures refl (c.kind_first_lem.auto.places ∙ c.requires.within.single) c.in-ok-cur-2.ensures.fits;
+          (narrow_more f ps ss one stage.Kind _ c.in_ok-cur-2.cur c.kind_first_lem.new.places [] _ c.after_kind.ensures refl
+          (c.in_ok-cur-2.ensures.is ∙ ap (λ n. kind_first w r n c.args.line.now None (draft f.cur one []) (meant c.args.x.token) c.args.x.start c.args.x.end) c.requires.within.single));
+      fits = narrow_fits f ps ss one _ c.in_ok-cur-2.cur c.kind_first_lem.new.places [] _ c.after_kind.ensures refl (c.kind_first_lem.auto.places ∙ c.requires.within.single) c.in_ok-cur-2.ensures.fits;
     }
 
-pub returns-in-ok-cur-3 : goal.returns-in-ok-cur-3
-returns-in-ok-cur-3 g c =
+pub returns-in_ok-cur-3 : goal.returns-in_ok-cur-3
+returns-in_ok-cur-3 g c =
     let f = c.args.form in
     let x = meant c.args.x.token in
     let b = c.args.x.start in
@@ -172,9 +172,9 @@ returns-in-ok-cur-3 g c =
     record {
       is =
           at_stage f ps ss one w r _ _ _ _ _ _ stage.Range _ c.in-Range.is
-          (narrow_more f ps ss one stage.Range _ c.in-ok-cur-3.cur c.step-in-Range.new.places c.step-in-Range.new.slots _ c.after_kind-in-Range.ensures (none_left _ c.step-in-Range.auto.slots)
-          (c.in-ok-cur-3.ensures.is ∙ ap (λ n. step w r n 0 c.args.line.now (draft f.cur one []) (meant c.args.x.token) c.args.x.start c.args.x.end) c.requires.within.single));
-      fits = narrow_fits f ps ss one _ c.in-ok-cur-3.cur c.step-in-Range.new.places c.step-in-Range.new.slots _ c.after_kind-in-Range.ensures (none_left _ c.step-in-Range.auto.slots) (c.step-in-Range.auto.places ∙ c.requires.within.single) c.in-ok-cur-3.ensures.fits;
+          (narrow_more f ps ss one stage.Range _ c.in_ok-cur-3.cur c.step-in-Range.new.places c.step-in-Range.new.slots _ c.after_kind-in-Range.ensures (none_left _ c.step-in-Range.auto.slots)
+          (c.in_ok-cur-3.ensures.is ∙ ap (λ n. step w r n 0 c.args.line.now (draft f.cur one []) (meant c.args.x.token) c.args.x.start c.args.x.end) c.requires.within.single));
+      fits = narrow_fits f ps ss one _ c.in_ok-cur-3.cur c.step-in-Range.new.places c.step-in-Range.new.slots _ c.after_kind-in-Range.ensures (none_left _ c.step-in-Range.auto.slots) (c.step-in-Range.auto.places ∙ c.requires.within.single) c.in_ok-cur-3.ensures.fits;
     }
 
 pub returns-in-Close : goal.returns-in-Close
@@ -200,8 +200,8 @@ kind_first-requires g c = held_at c.args.form c.args.places.now c.args.slots.now
 pub step-requires-in-Range : goal.step-requires-in-Range
 step-requires-in-Range g c = record { within = held_at c.args.form c.args.places.now c.args.slots.now c.args.one.now c.args.look.now stage.Range c.requires.within c.in-Range.is; worded = c.requires.worded }
 
-pub returns-in-err-cur-2 : goal.returns-in-err-cur-2
-returns-in-err-cur-2 g c =
+pub returns-in_err-cur-2 : goal.returns-in_err-cur-2
+returns-in_err-cur-2 g c =
     let f = c.args.form in
     let x = meant c.args.x.token in
     let b = c.args.x.start in
@@ -210,18 +210,18 @@ returns-in-err-cur-2 g c =
     let one = c.args.one.now in
     let w = g.V.Vocabulary.words in
     let r = g.V.Vocabulary.ranges in
-    let p = err_from_is_err_and c.from-residual-in-err-cur-2.result c.from-residual-in-err-cur-2.ensures.1 in
+    let p = err_from_is_err_and c.from_residual-in_err-cur-2.result c.from_residual-in_err-cur-2.ensures.1 in
     record {
       is =
           ap (λ r. form_came r ps ss c.kind_first_lem.new.places) p.1 ∙ ap faulted p.2 ∙
           at_stage f ps ss one w r _ _ _ _ _ _ stage.Kind _ c.in-Kind.is
           (narrow_fault f ps ss one stage.Kind _ _
-          (c.in-err-cur-2.ensures.is ∙ ap (λ n. kind_first w r n c.args.line.now None (draft f.cur one []) x b c.args.x.end) c.requires.within.single));
+          (c.in_err-cur-2.ensures.is ∙ ap (λ n. kind_first w r n c.args.line.now None (draft f.cur one []) x b c.args.x.end) c.requires.within.single));
       fits = subst (λ r. FormHeldOk r ps ss c.kind_first_lem.new.places c.kind_first_lem.new.look) (sym p.1) tt;
     }
 
-pub returns-in-err-cur-3 : goal.returns-in-err-cur-3
-returns-in-err-cur-3 g c =
+pub returns-in_err-cur-3 : goal.returns-in_err-cur-3
+returns-in_err-cur-3 g c =
     let f = c.args.form in
     let x = meant c.args.x.token in
     let b = c.args.x.start in
@@ -230,18 +230,18 @@ returns-in-err-cur-3 g c =
     let one = c.args.one.now in
     let w = g.V.Vocabulary.words in
     let r = g.V.Vocabulary.ranges in
-    let p = err_from_is_err_and c.from-residual-in-err-cur-3.result c.from-residual-in-err-cur-3.ensures.1 in
+    let p = err_from_is_err_and c.from_residual-in_err-cur-3.result c.from_residual-in_err-cur-3.ensures.1 in
     record {
       is =
           ap (λ r. form_came r ps ss c.step-in-Range.new.places) p.1 ∙ ap faulted p.2 ∙
           at_stage f ps ss one w r _ _ _ _ _ _ stage.Range _ c.in-Range.is
           (narrow_fault f ps ss one stage.Range _ _
-          (c.in-err-cur-3.ensures.is ∙ ap (λ n. step w r n 0 c.args.line.now (draft f.cur one []) x b c.args.x.end) c.requires.within.single));
+          (c.in_err-cur-3.ensures.is ∙ ap (λ n. step w r n 0 c.args.line.now (draft f.cur one []) x b c.args.x.end) c.requires.within.single));
       fits = subst (λ r. FormHeldOk r ps ss c.step-in-Range.new.places c.step-in-Range.new.look) (sym p.1) tt;
     }
 
-pub returns-in-ok-first : goal.returns-in-ok-first
-returns-in-ok-first g c =
+pub returns-in_ok-first : goal.returns-in_ok-first
+returns-in_ok-first g c =
     let f = c.args.form in
     let x = meant c.args.x.token in
     let b = c.args.x.start in
@@ -249,26 +249,26 @@ returns-in-ok-first g c =
     let ss = c.args.slots.now in
     let one = c.args.one.now in
     record {
-      is = first_more f ps ss one g.V.Vocabulary.words g.V.Vocabulary.ranges _ _ _ x b _ c.in-Word.word.now (ap meant c.in-Word.is) c.in-InPath.verb c.in-ok-first.first c.in-InPath.is c.in-ok-first.ensures;
+      is = first_more f ps ss one g.V.Vocabulary.words g.V.Vocabulary.ranges _ _ _ x b _ c.in-Word.word.now (ap meant c.in-Word.is) c.in-InPath.verb c.in_ok-first.first c.in-InPath.is c.in_ok-first.ensures;
       fits = record { single = c.requires.within.single; holds = c.requires.within.holds };
     }
 
-pub returns-in-err-first : goal.returns-in-err-first
-returns-in-err-first g c =
+pub returns-in_err-first : goal.returns-in_err-first
+returns-in_err-first g c =
     let f = c.args.form in
     let x = meant c.args.x.token in
     let b = c.args.x.start in
     let ps = c.args.places.now in
     let ss = c.args.slots.now in
     let one = c.args.one.now in
-    let p = err_from_is_err_and c.from-residual.result c.from-residual.ensures.1 in
+    let p = err_from_is_err_and c.from_residual.result c.from_residual.ensures.1 in
     record {
-      is = ap (λ r. form_came r ps ss one) p.1 ∙ ap faulted p.2 ∙ first_fault f ps ss one g.V.Vocabulary.words g.V.Vocabulary.ranges _ _ _ x b _ c.in-Word.word.now (ap meant c.in-Word.is) c.in-InPath.verb c.in-err-first.field-0.0 c.in-InPath.is c.in-err-first.ensures;
+      is = ap (λ r. form_came r ps ss one) p.1 ∙ ap faulted p.2 ∙ first_fault f ps ss one g.V.Vocabulary.words g.V.Vocabulary.ranges _ _ _ x b _ c.in-Word.word.now (ap meant c.in-Word.is) c.in-InPath.verb c.in_err-first.field-0.0 c.in-InPath.is c.in_err-first.ensures;
       fits = subst (λ r. FormHeldOk r ps ss one c.args.look.now) (sym p.1) tt;
     }
 
-pub returns-in-ok-second : goal.returns-in-ok-second
-returns-in-ok-second g c =
+pub returns-in_ok-second : goal.returns-in_ok-second
+returns-in_ok-second g c =
     let f = c.args.form in
     let x = meant c.args.x.token in
     let b = c.args.x.start in
@@ -276,20 +276,20 @@ returns-in-ok-second g c =
     let ss = c.args.slots.now in
     let one = c.args.one.now in
     record {
-      is = second_more f ps ss one g.V.Vocabulary.words g.V.Vocabulary.ranges _ _ _ x b _ c.in-Word-token.word.now (ap meant c.in-Word-token.is) c.in-ok-second.second c.in-InSecondPath.is c.in-ok-second.ensures;
+      is = second_more f ps ss one g.V.Vocabulary.words g.V.Vocabulary.ranges _ _ _ x b _ c.in-Word-token.word.now (ap meant c.in-Word-token.is) c.in_ok-second.second c.in-InSecondPath.is c.in_ok-second.ensures;
       fits = record { single = c.requires.within.single; holds = c.requires.within.holds };
     }
 
-pub returns-in-err-second : goal.returns-in-err-second
-returns-in-err-second g c =
+pub returns-in_err-second : goal.returns-in_err-second
+returns-in_err-second g c =
     let f = c.args.form in
     let x = meant c.args.x.token in
     let b = c.args.x.start in
     let ps = c.args.places.now in
     let ss = c.args.slots.now in
     let one = c.args.one.now in
-    let p = err_from_is_err_and c.from-residual-in-err-second.result c.from-residual-in-err-second.ensures.1 in
+    let p = err_from_is_err_and c.from_residual-in_err-second.result c.from_residual-in_err-second.ensures.1 in
     record {
-      is = ap (λ r. form_came r ps ss one) p.1 ∙ ap faulted p.2 ∙ second_fault f ps ss one g.V.Vocabulary.words g.V.Vocabulary.ranges _ _ _ x b _ c.in-Word-token.word.now (ap meant c.in-Word-token.is) c.in-err-second.field-0.0 c.in-InSecondPath.is c.in-err-second.ensures;
+      is = ap (λ r. form_came r ps ss one) p.1 ∙ ap faulted p.2 ∙ second_fault f ps ss one g.V.Vocabulary.words g.V.Vocabulary.ranges _ _ _ x b _ c.in-Word-token.word.now (ap meant c.in-Word-token.is) c.in_err-second.field-0.0 c.in-InSecondPath.is c.in_err-second.ensures;
       fits = subst (λ r. FormHeldOk r ps ss one c.args.look.now) (sym p.1) tt;
     }

@@ -4,21 +4,21 @@ use Rattle.std.proofs.lemmas.Result.{err_from_is_err_and}
 use Rattle.sheets.proofs.Forming.{acceptance}
 use Rattle.sheets.proofs.sheet.Sheet.check.Goals as goal
 
-pub returns-in-err-checked : goal.returns-in-err-checked
-returns-in-err-checked g c =
-    let p = err_from_is_err_and c.from-residual.result c.from-residual.ensures.1 in
-    let answer = c.in-err-checked.ensures in
-    let accepted = acceptance c.args.places.now c.args.slots.now c.args.place_count c.args.slot_count (Err c.in-err-checked.field-0.0) answer in
+pub returns-in_err-checked : goal.returns-in_err-checked
+returns-in_err-checked g c =
+    let p = err_from_is_err_and c.from_residual.result c.from_residual.ensures.1 in
+    let answer = c.in_err-checked.ensures in
+    let accepted = acceptance c.args.places.now c.args.slots.now c.args.place_count c.args.slot_count (Err c.in_err-checked.field-0.0) answer in
     rw (p.1, p.2) (record { answer = answer; accepted = accepted; places = refl; slots = refl })
 
 pub invariant-of-self : goal.invariant-of-self
 invariant-of-self g c =
-    let accepted = acceptance c.args.places.now c.args.slots.now c.args.place_count c.args.slot_count (Ok tt) c.in-ok-checked.ensures in
+    let accepted = acceptance c.args.places.now c.args.slots.now c.args.place_count c.args.slot_count (Ok tt) c.in_ok-checked.ensures in
     let sheet = (accepted.0 refl).sheet in
     simp sub-zero ((sheet.few_places, sheet.few_slots), ((λ _. ∣ sheet ∣₁), ((λ none. absurd (omega (arith, sheet.formed.rooted))), tt)))
 
 pub returns : goal.returns
 returns g c =
-    let answer = c.in-ok-checked.ensures in
+    let answer = c.in_ok-checked.ensures in
     let accepted = acceptance c.args.places.now c.args.slots.now c.args.place_count c.args.slot_count (Ok tt) answer in
     record { answer = answer; accepted = accepted; places = simp sub-zero; slots = simp sub-zero }
