@@ -18,7 +18,7 @@ returns-in_err-token c =
     let a = next_is c.args.line.now c.args.from c.run_end-start.result c.run_end-start.ensures.value (refused c.in_err-token.field-0.0) c.if-start-line.false c.in_err-token.ensures in
     rw (p.1, p.2) (record { answer = a.0; bytes = tt; ahead = a.1 })
 
-stands : (c : goal.After-result-1) → Ahead c.run_end-start.result (length c.args.line.now) (token (meant c.in_ok-token.token) c.run_end-start.result c.in_ok-token.end)
+stands : (c : goal.After-token-1) → Ahead c.run_end-start.result (length c.args.line.now) (token (meant c.in_ok-token.token) c.run_end-start.result c.in_ok-token.end)
 stands c = at_ahead c.args.line.now c.run_end-start.result _ c.if-start-line.false c.in_ok-token.ensures
 
 pub slice_bounds-result-start : goal.slice_bounds-result-start
