@@ -4,6 +4,7 @@ use mathlib.Core.Logic.{∥∥₁_elim, ∥∥₁_map}
 use native.Mathlib.Bridge.{le_prop}
 use native.Mathlib.Nat.{ℕ_set}
 use Rattle.std.proofs.lemmas.List.{nil_from_length}
+use Rattle.kinds.specs.declared.kind.Kind.{Ghosts}
 use Rattle.records.specs.declared.PlaceRecord.{PlaceRecord}
 use Rattle.records.specs.declared.SlotRecord.{SlotRecord}
 use Rattle.records.specs.Tables.{WellFormed, name_at}
@@ -24,7 +25,7 @@ module _ {F : Type 0} {ps : List (PlaceRecord F)} {ss : List SlotRecord} where
     full = ℕ_set _ _ w.full v.full i;
   }
 
-module _ {K F : Type 0} (s : Sheet K F) where
+module _ {K F : Type 0} {kind : Ghosts K F} (s : Sheet K F kind) where
   pub shows_nothing : length (shown_places s) ≡ 0 → ShowsNothing s
   shows_nothing none = record {
     places = nil_from_length (shown_places s) none;

@@ -9,7 +9,7 @@ use kinds::catalogue::Catalogue;
 pub(crate) fn is_any(word: &[u8]) -> bool
     ensures { result ≡ bytes_eq word.now (codes "any") }
 {
-    word == b"any"
+    word == b"any".as_slice()
 }
 
 // The kind of the catalogue that has this word.

@@ -11,11 +11,11 @@ returns-in_err-checked g c =
     let accepted = acceptance c.args.places.now c.args.slots.now c.args.place_count c.args.slot_count (Err c.in_err-checked.field-0.0) answer in
     rw (p.1, p.2) (record { answer = answer; accepted = accepted; places = refl; slots = refl })
 
-pub invariant-of-self : goal.invariant-of-self
-invariant-of-self g c =
+pub invariant_of-self : goal.invariant_of-self
+invariant_of-self g c =
     let accepted = acceptance c.args.places.now c.args.slots.now c.args.place_count c.args.slot_count (Ok tt) c.in_ok-checked.ensures in
     let sheet = (accepted.0 refl).sheet in
-    simp sub-zero ((sheet.few_places, sheet.few_slots), ((λ _. ∣ sheet ∣₁), ((λ none. absurd (omega (arith, sheet.formed.rooted))), tt)))
+    simp sub-zero (record { limits = (sheet.few_places, sheet.few_slots); shown = λ _. ∣ sheet ∣₁; nothing = λ none. absurd (omega (arith, sheet.formed.rooted)) })
 
 pub returns : goal.returns
 returns g c =

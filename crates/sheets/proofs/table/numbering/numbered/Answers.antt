@@ -9,8 +9,8 @@ pub loop-i-preserved : goal.loop-i-preserved
 loop-i-preserved c =
     let more = met_more c.args.slots.now c.loop-i.i in (
       elim c.if-target-next-2.branch [
-        | then-target-next-2 w ↦ omega (arith, w.next_is, w.if-target-next-2.true)
-        | else-target-next-2 w ↦ omega (arith, w.next_is, w.if-target-next-2.false)
+        | then-target-next-2 w ↦ omega (arith, w.next-is, w.if-target-next-2.true)
+        | else-target-next-2 w ↦ omega (arith, w.next-is, w.if-target-next-2.false)
       ],
       λ k low high.
           elim (cases_lt k c.loop-i.i) [
