@@ -3,6 +3,7 @@ use Rattle.std.proofs.Common.{◌≡◌, ℕ, ◌+◌, ◌<◌, ◌≤◌, List,
 use mathlib.Core.Logic.{∥∥₁_elim}
 use native.Mathlib.Nat.{ℕ_set}
 use Rattle.kinds.specs.Laws.{KindLaws}
+use Rattle.kinds.specs.declared.kind.Kind.{Ghosts}
 use Rattle.records.specs.declared.Counts.{Counts}
 use Rattle.records.specs.Tables.{WellFormed, blank_slot}
 use Rattle.records.specs.Sheets.{Formed, blank_place, sheet_of}
@@ -24,7 +25,7 @@ use Rattle.jobs.specs.Faults.{fault_number}
 use Rattle.jobs.specs.Adding.{add_checks, room_checks, Ready, Stands, Unchanged, Accepted, Clashed, Added, ask_of, NoSheet, all_places, all_slots}
 use Rattle.jobs.proofs.Answering.{not_answered}
 
-module _ {K F : Type 0} (j : Job K F) where
+module _ {K F : Type 0} {g : Ghosts K F} (j : Job K F g) where
   pub same_loans : SameLoans j j
   same_loans = record { places = refl; slots = refl; work_places = refl; work_slots = refl; links = refl; shelf_places = refl; shelf_slots = refl }
 
@@ -46,7 +47,7 @@ module _ {K F : Type 0} (j : Job K F) where
   standing_links some k h = ∥∥₁_elim (j.sound some) (ℕ_set _ _) (λ s. s.own k h)
 
 module _ {K F : Type 0} {below : K → K → Type 0} {top : K} {form : K → F} {kind : F → Option K} (laws : KindLaws below top form kind)
-    (j : Job K F) (path : List ℕ) (sheet : view.Sheet K F) where
+    {g : Ghosts K F} (j : Job K F g) (path : List ℕ) (sheet : view.Sheet K F g) where
   -- ---- a refusal before the merge
 
   -- none of the checks before the clash has the clash's number

@@ -1,6 +1,7 @@
 -- Add: its checks, and what it leaves.
 use Rattle.std.specs.Prelude.{◌≡◌, ℕ, ◌+◌, ◌<◌, ◌≤◌, List, [], ◌∷◌, length, take, Ok, Err, Option, Result, slice_index}
 use Rattle.kinds.specs.Laws.{KindLaws}
+use Rattle.kinds.specs.declared.kind.Kind.{Ghosts}
 use Rattle.names.specs.Names.{IsName}
 use Rattle.records.specs.declared.Counts.{Counts}
 use Rattle.records.specs.Tables.{blank_slot}
@@ -27,10 +28,10 @@ pub record Nameless (path : List ℕ) : Type 0 where
   pub nameless : IsName (slice_index path at) → ⊥
 
 -- the checks of the path and the sheet alone
-abbrev pub path_checks : {K F : Type 0} → List ℕ → view.Sheet K F → Checks
+abbrev pub path_checks : {K F : Type 0} {g : Ghosts K F} → List ℕ → view.Sheet K F g → Checks
 path_checks path sheet = (51, ShowsNothing sheet) ∷ (29, 16 < length path) ∷ (53, Nameless path) ∷ []
 
-module _ {K F : Type 0} (j : Job K F) (path : List ℕ) (sheet : view.Sheet K F) where
+module _ {K F : Type 0} {g : Ghosts K F} (j : Job K F g) (path : List ℕ) (sheet : view.Sheet K F g) where
   -- the places and slots of the standing sheet and of the ask, side by side
   abbrev pub all_places : ℕ
   all_places = place_count j + length path + length (shown_places sheet)
@@ -68,7 +69,7 @@ module _ {K F : Type 0} (j : Job K F) (path : List ℕ) (sheet : view.Sheet K F)
 -- ---- what it leaves
 
 -- the limits, the standing sheet, the links and the shelf are as they were
-pub record Stands {K F : Type 0} (before after : Job K F) : Type 0 where
+pub record Stands {K F : Type 0} {g : Ghosts K F} (before after : Job K F g) : Type 0 where
   pub limit_places : place_limit after ≡ place_limit before
   pub limit_slots : slot_limit after ≡ slot_limit before
   pub counted_places : place_count after ≡ place_count before
@@ -80,14 +81,14 @@ pub record Stands {K F : Type 0} (before after : Job K F) : Type 0 where
   pub shelf_slots : after.shelf_slots.now ≡ before.shelf_slots.now
 
 -- nothing has changed
-pub record Unchanged {K F : Type 0} (before after : Job K F) : Type 0 where
+pub record Unchanged {K F : Type 0} {g : Ghosts K F} (before after : Job K F g) : Type 0 where
   pub stands : Stands before after
   pub work_places : after.work_places.now ≡ before.work_places.now
   pub work_slots : after.work_slots.now ≡ before.work_slots.now
 
 module _ {K F : Type 0} {below : K → K → Type 0} {top : K} {form : K → F} {kind : F → Option K} (laws : KindLaws below top form kind) where
   -- the sheet that the add of a sheet at a path stands for
-  abbrev pub ask_of : List ℕ → view.Sheet K F → records.Sheet K
+  abbrev pub ask_of : {g : Ghosts K F} → List ℕ → view.Sheet K F g → records.Sheet K
   ask_of path sheet = chained top path (sheet_of laws (shown_places sheet) (shown_slots sheet))
 
   -- no sheet, of any size, satisfies both
@@ -96,7 +97,7 @@ module _ {K F : Type 0} {below : K → K → Type 0} {top : K} {form : K → F} 
 
   -- The merge of the standing sheet and the ask stands, each kind in its own form, and its counts are the answer. The records past
   -- it are blank as far as the old sheet went, and so are the work records that were used; all else is as it was.
-  pub record Accepted (before : Job K F) (path : List ℕ) (sheet : view.Sheet K F) (counts : Counts) (after : Job K F) : Type 0 where
+  pub record Accepted {g : Ghosts K F} (before : Job K F g) (path : List ℕ) (sheet : view.Sheet K F g) (counts : Counts) (after : Job K F g) : Type 0 where
     pub limit_places : place_limit after ≡ place_limit before
     pub limit_slots : slot_limit after ≡ slot_limit before
     pub counted_places : place_count after ≡ counts.places
@@ -113,13 +114,13 @@ module _ {K F : Type 0} {below : K → K → Type 0} {top : K} {form : K → F} 
 
   -- After a clash the standing sheet and all else is as it was, and the work records that were used are blank: as they were before,
   -- in a job whose work records were blank.
-  pub record Clashed (before : Job K F) (path : List ℕ) (sheet : view.Sheet K F) (after : Job K F) : Type 0 where
+  pub record Clashed {g : Ghosts K F} (before : Job K F g) (path : List ℕ) (sheet : view.Sheet K F g) (after : Job K F g) : Type 0 where
     pub stands : Stands before after
     pub work_places : Worked (blank_place laws) (all_places before path sheet) before.work_places.now after.work_places.now
     pub work_slots : Worked blank_slot (all_slots before path sheet) before.work_slots.now after.work_slots.now
 
   -- after an add that was answered so
-  abbrev pub Added : Job K F → List ℕ → view.Sheet K F → Result Counts JobFault → Job K F → Type 0
+  abbrev pub Added : {g : Ghosts K F} → Job K F g → List ℕ → view.Sheet K F g → Result Counts JobFault → Job K F g → Type 0
   Added before path sheet (Ok counts) after = Accepted before path sheet counts after
   Added before path sheet (Err NoRoom) after = Unchanged before after
   Added before path sheet (Err TooLarge) after = Unchanged before after

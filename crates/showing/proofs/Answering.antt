@@ -5,6 +5,7 @@ use Rattle.std.specs.List.{range_with_len}
 use Rattle.std.proofs.lemmas.List.{take_at, drop_at}
 use Rattle.std.proofs.lemmas.List.Sums.{sum_by-cons}
 use Rattle.kinds.specs.Laws.{KindLaws}
+use Rattle.kinds.specs.declared.kind.Kind.{Ghosts}
 use Rattle.records.specs.declared.PlaceRecord.{PlaceRecord}
 use Rattle.records.specs.declared.SlotRecord.{SlotRecord}
 use Rattle.records.specs.Tables.{target_at}
@@ -24,7 +25,7 @@ use Rattle.showing.proofs.Depth.{not_deep}
 use Rattle.showing.proofs.Stepping.{formed, small}
 use Rattle.showing.proofs.Walking.{one_text}
 
-pub not_nothing : {K F : Type 0} (sheet : Sheet K F) → ShowsSheet sheet → ShowsNothing sheet → ⊥
+pub not_nothing : {K F : Type 0} {g : Ghosts K F} (sheet : Sheet K F g) → ShowsSheet sheet → ShowsNothing sheet → ⊥
 not_nothing sheet is none = omega (arith, is.formed.rooted, ap length none.places)
 
 same_count : (f g : ℕ → Bool) (a n : ℕ) → ((p : ℕ) → a ≤ p → p < a + n → f p ≡ g p) → count_by f (range_with_len a n) ≡ count_by g (range_with_len a n)

@@ -1,6 +1,7 @@
 -- Show: its checks, and what it leaves.
 use Rattle.std.specs.Prelude.{◌≡◌, ℕ, ◌<◌, min, List, [], ◌∷◌, length, take, drop, Ok, Err, Option, Result}
 use Rattle.kinds.specs.Laws.{KindLaws}
+use Rattle.kinds.specs.declared.kind.Kind.{Ghosts}
 use Rattle.records.specs.Sheets as records
 use Rattle.records.specs.Sheets.{sheet_of}
 use Rattle.sheets.specs.declared.sheet.Sheet.{Sheet}
@@ -18,7 +19,7 @@ module _ {K F : Type 0} {below : K → K → Type 0} {top : K} {form : K → F} 
     pub long : min 60000 (length out) < length text
 
   -- the checks of a show in order
-  abbrev pub show_checks : Sheet K F → List ℕ → Checks
+  abbrev pub show_checks : {g : Ghosts K F} → Sheet K F g → List ℕ → Checks
   show_checks sheet out =
       (51, ShowsNothing sheet)
       ∷ (37, 99 < tags (sheet_of laws (shown_places sheet) (shown_slots sheet)))
