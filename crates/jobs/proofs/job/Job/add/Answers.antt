@@ -80,8 +80,8 @@ merge-made-requires g c =
       own = λ x h. ap (λ (l : List ℕ). get_or l x 0) (sym links) ∙ standing_links j ready.some x (omega (arith, lap, rp));
     }
 
-pub invariant-of-self : goal.invariant-of-self
-invariant-of-self g c =
+pub invariant_of-self : goal.invariant_of-self
+invariant_of-self g c =
     let laws = g.K.Kind.laws in
     let j = c.args.self.now in
     let path = c.args.path.now in
@@ -104,19 +104,15 @@ invariant-of-self g c =
     let ll = c.merge-made.auto.links ∙ ap length links in
     let most_places : c.in-Some.counts.places ≤ j.state.limits.places = omega (arith, within.0, ap length asked_places, ready.places) in
     let most_slots : c.in-Some.counts.slots ≤ j.state.limits.slots = omega (arith, within.1, ap length asked_slots, ready.slots) in
-    let links_kept : c.merge-made.new.links ≡ j.links.now = c.in-Some.ensures.links ∙ links in (
-      (pr.0, omega (arith, lp, pr.1), omega (arith, lwp, pr.2), omega (arith, ll, pr.3), most_places),
-      (
-        (sr.0, omega (arith, ls, sr.1), omega (arith, lws, sr.2), most_slots),
-        (
-          λ some. ∣ record {
-            formed = c.in-Some.ensures.answer.formed;
-            own = λ k h. ap (λ (l : List ℕ). get_or l k 0) links_kept ∙ standing_links j ready.some k h;
-          } ∣₁,
-          tt,
-        ),
-      ),
-    )
+    let links_kept : c.merge-made.new.links ≡ j.links.now = c.in-Some.ensures.links ∙ links in
+    record {
+      place_room = (pr.0, omega (arith, lp, pr.1), omega (arith, lwp, pr.2), omega (arith, ll, pr.3), most_places);
+      slot_room = (sr.0, omega (arith, ls, sr.1), omega (arith, lws, sr.2), most_slots);
+      sound = λ some. ∣ record {
+        formed = c.in-Some.ensures.answer.formed;
+        own = λ k h. ap (λ (l : List ℕ). get_or l k 0) links_kept ∙ standing_links j ready.some k h;
+      } ∣₁;
+    }
 
 pub returns-in-Some : goal.returns-in-Some
 returns-in-Some g c =

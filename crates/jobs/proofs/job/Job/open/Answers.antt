@@ -6,14 +6,15 @@ use Rattle.jobs.specs.Jobs.{place_room, slot_room, shelf_place_room, shelf_slot_
 use Rattle.jobs.proofs.Opened.{table_opened, table_blank, links_own, sound_opened, sheet_opened}
 use Rattle.jobs.proofs.job.Job.open.Goals as goal
 
-pub invariant-of-self : goal.invariant-of-self
-invariant-of-self g c = (
-  (omega arith, omega arith, omega arith, omega arith, omega arith),
-  ((omega arith, omega arith, omega arith, omega arith), ((λ pos. absurd (omega arith)), tt)),
-)
+pub invariant_of-self : goal.invariant_of-self
+invariant_of-self g c = record {
+  place_room = (omega arith, omega arith, omega arith, omega arith, omega arith);
+  slot_room = (omega arith, omega arith, omega arith, omega arith);
+  sound = λ pos. absurd (omega arith);
+}
 
-pub invariant-of-self-2 : goal.invariant-of-self-2
-invariant-of-self-2 g c =
+pub invariant_of-self-2 : goal.invariant_of-self-2
+invariant_of-self-2 g c =
     let j = c.args.self.now in
     let some : 0 < place_room j = omega arith in
     let blank = blank_place g.K.Kind.laws in
@@ -22,7 +23,11 @@ invariant-of-self-2 g c =
     let limits = c.opened-state.ensures.limits.0 ∙ c.room-limits.ensures.places in
     let one : c.opened-state.result.standing.places ≡ 1 = omega (arith, c.opened-state.ensures.counts.0) in
     let none = c.opened-state.ensures.counts.1 in
-    (search rules, (search rules, ((λ pos. ∣ sound_opened (place_room j) _ j.places.now j.links.now some places links limits one none ∣₁), tt)))
+    record {
+      place_room = search rules;
+      slot_room = search rules;
+      sound = λ pos. ∣ sound_opened (place_room j) _ j.places.now j.links.now some places links limits one none ∣₁;
+    }
 
 pub returns : goal.returns
 returns g c =
