@@ -112,8 +112,8 @@ returns-in-Done g c =
       fits = bracket_fits f ps ss one c.args.look.now 41 x b (stage.Closed Add) _ c.closed-in-Done.ensures c.requires.within.single (held_at f ps ss one _ stage.Place c.requires.within c.in-Place.is);
     }
 
-pub returns-in_ok-cur : goal.returns-in_ok-cur
-returns-in_ok-cur g c =
+pub returns-in_ok-cur-in_default-mode : goal.returns-in_ok-cur-in_default-mode
+returns-in_ok-cur-in_default-mode g c =
     let f = c.args.form in
     let x = meant c.args.x.token in
     let b = c.args.x.start in
@@ -121,28 +121,28 @@ returns-in_ok-cur g c =
     let ss = c.args.slots.now in
     let one = c.args.one.now in
     record {
-      is = place_more f ps ss one g.V.Vocabulary.words g.V.Vocabulary.ranges _ _ _ _ _ _ c.in_ok-cur.cur c.step.new.places c.step.new.slots c.in-Place.is c.in_default-mode.not-Done c.in_ok-cur.ensures.is;
-      fits = place_fits f ps ss one c.in_ok-cur.cur c.step.new.places c.step.new.slots _ c.in-Place.is c.requires.within.single c.in_ok-cur.ensures.fits;
+      is = place_more f ps ss one g.V.Vocabulary.words g.V.Vocabulary.ranges _ _ _ _ _ _ c.in_ok-cur-in_default-mode.cur c.step.new.places c.step.new.slots c.in-Place.is c.in_default-mode.not-Done c.in_ok-cur-in_default-mode.ensures.is;
+      fits = place_fits f ps ss one c.in_ok-cur-in_default-mode.cur c.step.new.places c.step.new.slots _ c.in-Place.is c.requires.within.single c.in_ok-cur-in_default-mode.ensures.fits;
     }
 
-pub returns-in_err-cur : goal.returns-in_err-cur
-returns-in_err-cur g c =
+pub returns-in_err-cur-in_default-mode : goal.returns-in_err-cur-in_default-mode
+returns-in_err-cur-in_default-mode g c =
     let f = c.args.form in
     let x = meant c.args.x.token in
     let b = c.args.x.start in
     let ps = c.args.places.now in
     let ss = c.args.slots.now in
     let one = c.args.one.now in
-    let p = err_from_is_err_and c.from_residual-in_err-cur.result c.from_residual-in_err-cur.ensures.1 in
+    let p = err_from_is_err_and c.from_residual-in_err-cur-in_default-mode.result c.from_residual-in_err-cur-in_default-mode.ensures.1 in
     record {
       is =
           ap (λ r. form_came r c.step.new.places c.step.new.slots one) p.1 ∙ ap faulted p.2 ∙
-          place_fault f ps ss one g.V.Vocabulary.words g.V.Vocabulary.ranges _ _ _ _ _ _ _ c.in-Place.is c.in_default-mode.not-Done c.in_err-cur.ensures.is;
+          place_fault f ps ss one g.V.Vocabulary.words g.V.Vocabulary.ranges _ _ _ _ _ _ _ c.in-Place.is c.in_default-mode.not-Done c.in_err-cur-in_default-mode.ensures.is;
       fits = subst (λ r. FormHeldOk r c.step.new.places c.step.new.slots one c.step.new.look) (sym p.1) tt;
     }
 
-pub returns-in_ok-cur-2 : goal.returns-in_ok-cur-2
-returns-in_ok-cur-2 g c =
+pub returns-in_ok-cur-in-Kind : goal.returns-in_ok-cur-in-Kind
+returns-in_ok-cur-in-Kind g c =
     let f = c.args.form in
     let x = meant c.args.x.token in
     let b = c.args.x.start in
@@ -154,13 +154,13 @@ returns-in_ok-cur-2 g c =
     record {
       is =
           at_stage f ps ss one w r _ _ _ _ _ _ stage.Kind _ c.in-Kind.is
-          (narrow_more f ps ss one stage.Kind _ c.in_ok-cur-2.cur c.kind_first_lem.new.places [] _ c.after_kind.ensures refl
-          (c.in_ok-cur-2.ensures.is ∙ ap (λ n. kind_first w r n c.args.line.now None (draft f.cur one []) (meant c.args.x.token) c.args.x.start c.args.x.end) c.requires.within.single));
-      fits = narrow_fits f ps ss one _ c.in_ok-cur-2.cur c.kind_first_lem.new.places [] _ c.after_kind.ensures refl (c.kind_first_lem.auto.places ∙ c.requires.within.single) c.in_ok-cur-2.ensures.fits;
+          (narrow_more f ps ss one stage.Kind _ c.in_ok-cur-in-Kind.cur c.kind_first.new.places [] _ c.after_kind.ensures refl
+          (c.in_ok-cur-in-Kind.ensures.is ∙ ap (λ n. kind_first w r n c.args.line.now None (draft f.cur one []) (meant c.args.x.token) c.args.x.start c.args.x.end) c.requires.within.single));
+      fits = narrow_fits f ps ss one _ c.in_ok-cur-in-Kind.cur c.kind_first.new.places [] _ c.after_kind.ensures refl (c.kind_first.auto.places ∙ c.requires.within.single) c.in_ok-cur-in-Kind.ensures.fits;
     }
 
-pub returns-in_ok-cur-3 : goal.returns-in_ok-cur-3
-returns-in_ok-cur-3 g c =
+pub returns-in_ok-cur-in-Range : goal.returns-in_ok-cur-in-Range
+returns-in_ok-cur-in-Range g c =
     let f = c.args.form in
     let x = meant c.args.x.token in
     let b = c.args.x.start in
@@ -172,9 +172,9 @@ returns-in_ok-cur-3 g c =
     record {
       is =
           at_stage f ps ss one w r _ _ _ _ _ _ stage.Range _ c.in-Range.is
-          (narrow_more f ps ss one stage.Range _ c.in_ok-cur-3.cur c.step-in-Range.new.places c.step-in-Range.new.slots _ c.after_kind-in-Range.ensures (none_left _ c.step-in-Range.auto.slots)
-          (c.in_ok-cur-3.ensures.is ∙ ap (λ n. step w r n 0 c.args.line.now (draft f.cur one []) (meant c.args.x.token) c.args.x.start c.args.x.end) c.requires.within.single));
-      fits = narrow_fits f ps ss one _ c.in_ok-cur-3.cur c.step-in-Range.new.places c.step-in-Range.new.slots _ c.after_kind-in-Range.ensures (none_left _ c.step-in-Range.auto.slots) (c.step-in-Range.auto.places ∙ c.requires.within.single) c.in_ok-cur-3.ensures.fits;
+          (narrow_more f ps ss one stage.Range _ c.in_ok-cur-in-Range.cur c.step-in-Range.new.places c.step-in-Range.new.slots _ c.after_kind-in-Range.ensures (none_left _ c.step-in-Range.auto.slots)
+          (c.in_ok-cur-in-Range.ensures.is ∙ ap (λ n. step w r n 0 c.args.line.now (draft f.cur one []) (meant c.args.x.token) c.args.x.start c.args.x.end) c.requires.within.single));
+      fits = narrow_fits f ps ss one _ c.in_ok-cur-in-Range.cur c.step-in-Range.new.places c.step-in-Range.new.slots _ c.after_kind-in-Range.ensures (none_left _ c.step-in-Range.auto.slots) (c.step-in-Range.auto.places ∙ c.requires.within.single) c.in_ok-cur-in-Range.ensures.fits;
     }
 
 pub returns-in-Close : goal.returns-in-Close
@@ -200,8 +200,8 @@ kind_first-requires g c = held_at c.args.form c.args.places.now c.args.slots.now
 pub step-requires-in-Range : goal.step-requires-in-Range
 step-requires-in-Range g c = record { within = held_at c.args.form c.args.places.now c.args.slots.now c.args.one.now c.args.look.now stage.Range c.requires.within c.in-Range.is; worded = c.requires.worded }
 
-pub returns-in_err-cur-2 : goal.returns-in_err-cur-2
-returns-in_err-cur-2 g c =
+pub returns-in_err-cur-in-Kind : goal.returns-in_err-cur-in-Kind
+returns-in_err-cur-in-Kind g c =
     let f = c.args.form in
     let x = meant c.args.x.token in
     let b = c.args.x.start in
@@ -210,18 +210,18 @@ returns-in_err-cur-2 g c =
     let one = c.args.one.now in
     let w = g.V.Vocabulary.words in
     let r = g.V.Vocabulary.ranges in
-    let p = err_from_is_err_and c.from_residual-in_err-cur-2.result c.from_residual-in_err-cur-2.ensures.1 in
+    let p = err_from_is_err_and c.from_residual-in_err-cur-in-Kind.result c.from_residual-in_err-cur-in-Kind.ensures.1 in
     record {
       is =
-          ap (λ r. form_came r ps ss c.kind_first_lem.new.places) p.1 ∙ ap faulted p.2 ∙
+          ap (λ r. form_came r ps ss c.kind_first.new.places) p.1 ∙ ap faulted p.2 ∙
           at_stage f ps ss one w r _ _ _ _ _ _ stage.Kind _ c.in-Kind.is
           (narrow_fault f ps ss one stage.Kind _ _
-          (c.in_err-cur-2.ensures.is ∙ ap (λ n. kind_first w r n c.args.line.now None (draft f.cur one []) x b c.args.x.end) c.requires.within.single));
-      fits = subst (λ r. FormHeldOk r ps ss c.kind_first_lem.new.places c.kind_first_lem.new.look) (sym p.1) tt;
+          (c.in_err-cur-in-Kind.ensures.is ∙ ap (λ n. kind_first w r n c.args.line.now None (draft f.cur one []) x b c.args.x.end) c.requires.within.single));
+      fits = subst (λ r. FormHeldOk r ps ss c.kind_first.new.places c.kind_first.new.look) (sym p.1) tt;
     }
 
-pub returns-in_err-cur-3 : goal.returns-in_err-cur-3
-returns-in_err-cur-3 g c =
+pub returns-in_err-cur-in-Range : goal.returns-in_err-cur-in-Range
+returns-in_err-cur-in-Range g c =
     let f = c.args.form in
     let x = meant c.args.x.token in
     let b = c.args.x.start in
@@ -230,18 +230,18 @@ returns-in_err-cur-3 g c =
     let one = c.args.one.now in
     let w = g.V.Vocabulary.words in
     let r = g.V.Vocabulary.ranges in
-    let p = err_from_is_err_and c.from_residual-in_err-cur-3.result c.from_residual-in_err-cur-3.ensures.1 in
+    let p = err_from_is_err_and c.from_residual-in_err-cur-in-Range.result c.from_residual-in_err-cur-in-Range.ensures.1 in
     record {
       is =
           ap (λ r. form_came r ps ss c.step-in-Range.new.places) p.1 ∙ ap faulted p.2 ∙
           at_stage f ps ss one w r _ _ _ _ _ _ stage.Range _ c.in-Range.is
           (narrow_fault f ps ss one stage.Range _ _
-          (c.in_err-cur-3.ensures.is ∙ ap (λ n. step w r n 0 c.args.line.now (draft f.cur one []) x b c.args.x.end) c.requires.within.single));
+          (c.in_err-cur-in-Range.ensures.is ∙ ap (λ n. step w r n 0 c.args.line.now (draft f.cur one []) x b c.args.x.end) c.requires.within.single));
       fits = subst (λ r. FormHeldOk r ps ss c.step-in-Range.new.places c.step-in-Range.new.look) (sym p.1) tt;
     }
 
-pub returns-in_ok-first : goal.returns-in_ok-first
-returns-in_ok-first g c =
+pub returns-in_ok-first-in-Word : goal.returns-in_ok-first-in-Word
+returns-in_ok-first-in-Word g c =
     let f = c.args.form in
     let x = meant c.args.x.token in
     let b = c.args.x.start in
@@ -249,12 +249,12 @@ returns-in_ok-first g c =
     let ss = c.args.slots.now in
     let one = c.args.one.now in
     record {
-      is = first_more f ps ss one g.V.Vocabulary.words g.V.Vocabulary.ranges _ _ _ x b _ c.in-Word.word.now (ap meant c.in-Word.is) c.in-InPath.verb c.in_ok-first.first c.in-InPath.is c.in_ok-first.ensures;
+      is = first_more f ps ss one g.V.Vocabulary.words g.V.Vocabulary.ranges _ _ _ x b _ c.in-Word.word.now (ap meant c.in-Word.is) c.in-InPath.verb c.in_ok-first-in-Word.first c.in-InPath.is c.in_ok-first-in-Word.ensures;
       fits = record { single = c.requires.within.single; holds = c.requires.within.holds };
     }
 
-pub returns-in_err-first : goal.returns-in_err-first
-returns-in_err-first g c =
+pub returns-in_err-first-in-Word : goal.returns-in_err-first-in-Word
+returns-in_err-first-in-Word g c =
     let f = c.args.form in
     let x = meant c.args.x.token in
     let b = c.args.x.start in
@@ -263,12 +263,12 @@ returns-in_err-first g c =
     let one = c.args.one.now in
     let p = err_from_is_err_and c.from_residual.result c.from_residual.ensures.1 in
     record {
-      is = ap (λ r. form_came r ps ss one) p.1 ∙ ap faulted p.2 ∙ first_fault f ps ss one g.V.Vocabulary.words g.V.Vocabulary.ranges _ _ _ x b _ c.in-Word.word.now (ap meant c.in-Word.is) c.in-InPath.verb c.in_err-first.field-0.0 c.in-InPath.is c.in_err-first.ensures;
+      is = ap (λ r. form_came r ps ss one) p.1 ∙ ap faulted p.2 ∙ first_fault f ps ss one g.V.Vocabulary.words g.V.Vocabulary.ranges _ _ _ x b _ c.in-Word.word.now (ap meant c.in-Word.is) c.in-InPath.verb c.in_err-first-in-Word.field-0.0 c.in-InPath.is c.in_err-first-in-Word.ensures;
       fits = subst (λ r. FormHeldOk r ps ss one c.args.look.now) (sym p.1) tt;
     }
 
-pub returns-in_ok-second : goal.returns-in_ok-second
-returns-in_ok-second g c =
+pub returns-in_ok-second-in-Word-token : goal.returns-in_ok-second-in-Word-token
+returns-in_ok-second-in-Word-token g c =
     let f = c.args.form in
     let x = meant c.args.x.token in
     let b = c.args.x.start in
@@ -276,20 +276,20 @@ returns-in_ok-second g c =
     let ss = c.args.slots.now in
     let one = c.args.one.now in
     record {
-      is = second_more f ps ss one g.V.Vocabulary.words g.V.Vocabulary.ranges _ _ _ x b _ c.in-Word-token.word.now (ap meant c.in-Word-token.is) c.in_ok-second.second c.in-InSecondPath.is c.in_ok-second.ensures;
+      is = second_more f ps ss one g.V.Vocabulary.words g.V.Vocabulary.ranges _ _ _ x b _ c.in-Word-token.word.now (ap meant c.in-Word-token.is) c.in_ok-second-in-Word-token.second c.in-InSecondPath.is c.in_ok-second-in-Word-token.ensures;
       fits = record { single = c.requires.within.single; holds = c.requires.within.holds };
     }
 
-pub returns-in_err-second : goal.returns-in_err-second
-returns-in_err-second g c =
+pub returns-in_err-second-in-Word-token : goal.returns-in_err-second-in-Word-token
+returns-in_err-second-in-Word-token g c =
     let f = c.args.form in
     let x = meant c.args.x.token in
     let b = c.args.x.start in
     let ps = c.args.places.now in
     let ss = c.args.slots.now in
     let one = c.args.one.now in
-    let p = err_from_is_err_and c.from_residual-in_err-second.result c.from_residual-in_err-second.ensures.1 in
+    let p = err_from_is_err_and c.from_residual-in_err-second-in-Word-token.result c.from_residual-in_err-second-in-Word-token.ensures.1 in
     record {
-      is = ap (λ r. form_came r ps ss one) p.1 ∙ ap faulted p.2 ∙ second_fault f ps ss one g.V.Vocabulary.words g.V.Vocabulary.ranges _ _ _ x b _ c.in-Word-token.word.now (ap meant c.in-Word-token.is) c.in_err-second.field-0.0 c.in-InSecondPath.is c.in_err-second.ensures;
+      is = ap (λ r. form_came r ps ss one) p.1 ∙ ap faulted p.2 ∙ second_fault f ps ss one g.V.Vocabulary.words g.V.Vocabulary.ranges _ _ _ x b _ c.in-Word-token.word.now (ap meant c.in-Word-token.is) c.in_err-second-in-Word-token.field-0.0 c.in-InSecondPath.is c.in_err-second-in-Word-token.ensures;
       fits = subst (λ r. FormHeldOk r ps ss one c.args.look.now) (sym p.1) tt;
     }
