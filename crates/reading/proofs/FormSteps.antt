@@ -1,5 +1,5 @@
 -- What one token does to a form, as the code has it.
-use Rattle.std.proofs.Common.{◌≡◌, ℕ, zero, suc, ◌<◌, ◌≤◌, Bool, true, false, cond, eqb, ltb, List, [], ◌∷◌, ◌++◌, length, ℤ, Some, None, Ok, Err, Option, Result, sym, refl, ap, ◌∙◌, subst, arith}
+use Rattle.std.proofs.Common.{◌≡◌, ℕ, Bool, true, false, cond, eqb, ltb, List, [], ◌∷◌, ◌++◌, length, ℤ, Some, None, Ok, Err, Option, Result, sym, refl, ap, ◌∙◌, subst, arith}
 use Rattle.tokens.specs.declared.token.Token.{Token}
 use Rattle.tokens.specs.declared.token.Token.TheVariants.{RoundOpen, RoundClose, SquareOpen, SquareClose, Hash, Dots, Word, Number}
 use Rattle.tokens.specs.Answers.{meant}
@@ -22,7 +22,7 @@ use Rattle.reading.specs.declared.form.Stage.{Stage}
 use Rattle.reading.specs.declared.form.Stage.TheVariants as stage
 use Rattle.reading.specs.declared.form.FormCursor.{FormCursor}
 use Rattle.reading.specs.declared.path.Path.{Path}
-use Rattle.reading.specs.Steps.{Step, go, fault, on_mark, on_word, on_some, step_in, kind_first}
+use Rattle.reading.specs.Steps.{Step, go, fault, on_mark, on_word, on_some, step_in}
 use Rattle.reading.specs.Answers as place
 use Rattle.reading.specs.Answers.{draft}
 use Rattle.reading.specs.Held.{Held}

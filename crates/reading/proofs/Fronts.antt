@@ -1,5 +1,5 @@
 -- What is read into the front of a table stands in the whole table.
-use Rattle.std.proofs.Common.{◌≡◌, List, ◌++◌, length, Ok, Err, Result, refl, arith}
+use Rattle.std.proofs.Common.{◌≡◌, List, ◌++◌, Ok, Err, Result, refl, arith}
 use Rattle.std.proofs.lemmas.List.{take-append-le, length-append}
 use Rattle.reading.specs.Steps.{go}
 use Rattle.reading.specs.declared.fault.ReadFault.{ReadFault}

@@ -1,5 +1,5 @@
 -- What has been read of a line: the places that it describes and the slots that it names, in the order of the text.
-use Rattle.std.specs.Prelude.{ℕ, Bool, true, false, cond, ◌&&◌, ◌||◌, List, [], ◌∷◌, map, length, Some, None, Option, ◌==◌, slice_index, slice_index_or}
+use Rattle.std.specs.Prelude.{ℕ, Bool, false, ◌&&◌, ◌||◌, List, [], ◌∷◌, map, Some, None, Option, ◌==◌, slice_index, slice_index_or}
 use Rattle.reading.specs.declared.draft.Tag.{Tag}
 use Rattle.reading.specs.declared.draft.Place.{Place}
 use Rattle.reading.specs.declared.draft.Slot.{Slot}

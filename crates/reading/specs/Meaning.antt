@@ -1,5 +1,5 @@
 -- The sheet that a draft describes.
-use Rattle.std.specs.Prelude.{◌≡◌, ℕ, ◌<◌, List, length, Some, Option}
+use Rattle.std.specs.Prelude.{◌≡◌, ℕ, ◌<◌, length, Some}
 use Rattle.records.specs.Tables as tables
 use Rattle.records.specs.Sheets.{Sheet, size, Slot, Formed}
 use Rattle.reading.specs.declared.draft.Tag.{Tag}

@@ -1,4 +1,4 @@
-use Rattle.std.proofs.Common.{◌≡◌, length, Ok, sym, refl, ap, ◌∙◌, arith}
+use Rattle.std.proofs.Common.{◌≡◌, Ok, sym, refl, ap, ◌∙◌}
 use Rattle.std.proofs.lemmas.Result.{err_from_is_err_and}
 use Rattle.tokens.specs.Answers.{meant, answer}
 use Rattle.tokens.specs.Faults.{text_number, text_byte}
@@ -9,7 +9,7 @@ use Rattle.reading.specs.Drafts.{nothing}
 use Rattle.reading.specs.Forming.{form_came, faulted}
 use Rattle.reading.proofs.Holding.{held_none}
 use Rattle.reading.proofs.FormSteps.{form_within, form_within_err}
-use Rattle.reading.proofs.FormLines.{left_start, too_long, left_end, left_fault, left_step_fault, left_ahead, left_more, same_room, left_room}
+use Rattle.reading.proofs.FormLines.{left_start, too_long, left_end, left_fault, left_step_fault, left_more, same_room, left_room}
 use Rattle.reading.proofs.Words.{next_worded}
 use Rattle.reading.proofs.forming.read_form_draft.Given as given
 use Rattle.reading.proofs.forming.read_form_draft.Goals as goal
