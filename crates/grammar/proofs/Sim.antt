@@ -140,8 +140,8 @@ module _ {K : Type 0} where
         (known (words w) (going S (inside g (named w) start)) _ (fault 21 b) b (λ k. described_as S d h k b b pl g (named w) o) (λ e. omega arith))
     kind_first_lem S d h g (number n) b j o = (refl, refl)
 
-    range_last : (S : Stack) (d : Draft K) (h : Bracket) (g : Option ℤ) (a n low₁ high₁ : ℤ) (b : ℕ) → Outer S d.top d.places d.slots → Matches b (Some (going S (inside g (range a n) start))) (range_last words ranges pl h low₁ high₁ d)
-    range_last S d h g a n low₁ high₁ b o =
+    range_last_lem : (S : Stack) (d : Draft K) (h : Bracket) (g : Option ℤ) (a n low₁ high₁ : ℤ) (b : ℕ) → Outer S d.top d.places d.slots → Matches b (Some (going S (inside g (range a n) start))) (range_last words ranges pl h low₁ high₁ d)
+    range_last_lem S d h g a n low₁ high₁ b o =
         known (ranges low₁ high₁) (going S (inside g (range a n) start)) _ (fault 21 h.byte) b
         (λ k. described_as S d h.tag k h.byte b pl g (range a n) o) (λ e. omega arith)
 
@@ -194,7 +194,7 @@ module _ {K : Type 0} where
     step_at S (ranged g a n) d x b j md e o = subst (Step-at S (ranged g a n) d x b j) (sym e.3) (by x)
       where
         by : (x : Tok) → Step-at S (ranged g a n) d x b j (Ranged e.0 e.1 e.2)
-        by (mark c) = one (eqb c 93) (going S (inside g (range a n) start)) _ b (range_last S d e.0 g a n e.1 e.2 b o)
+        by (mark c) = one (eqb c 93) (going S (inside g (range a n) start)) _ b (range_last_lem S d e.0 g a n e.1 e.2 b o)
         by (word w) = (refl, refl)
         by (number k) = (refl, refl)
     step_at S (inside g k ss) d x b j md e o = subst (Step-at S (inside g k ss) d x b j) (sym e) (by x)
