@@ -18,7 +18,7 @@ use Rattle.reading.specs.Drafts.{Draft, parent_at, described, named as named?}
 use Rattle.reading.specs.Drafts as drafts
 use Rattle.reading.specs.Steps.{go, fault, on_some, on_next, on_step, described_at, describe, end_in, no_kind_ahead, step, read_from, read_place}
 use Rattle.grammar.specs.Terms.{Kind, named, range, Term, ref, node, Slots, none, slot, spell_tag, spell_kind, spell, spell_slots}
-use Rattle.grammar.specs.Described.{Lists, tagged, nothing, with_place, kind_of, laid, laid_slots, described_by, tag_of, item_of, link_of}
+use Rattle.grammar.specs.Described.{Lists, tagged, with_place, kind_of, laid, laid_slots, described_by, tag_of, item_of, link_of}
 use Rattle.grammar.specs.Lines.{Upto, here, next, Means}
 use Rattle.grammar.specs.Good.{IsTag, NewName, GoodTag, GoodLeads, GoodRange, GoodTerm, GoodSlots, Good}
 use Rattle.grammar.proofs.Checks.{tag_good, new_tag, leads_good, new_name}

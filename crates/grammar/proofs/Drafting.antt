@@ -19,7 +19,7 @@ use Rattle.reading.specs.Drafts.{Draft, parent_at, described, named as named?, s
 use Rattle.reading.specs.Drafts as drafts
 use Rattle.reading.specs.Steps.{Step, go, fault, on_some, on_next, on_step, tag_number, described_at, by_tag, undescribed, end_in, no_kind_ahead, step, read_from, read_place}
 use Rattle.grammar.specs.Terms.{Kind, named, range, Term, ref, node, Slots, none, slot, spell_tag, spell_kind, spell, spell_slots}
-use Rattle.grammar.specs.Described.{Lists, tagged, lead_of, nothing, kind_of, laid, laid_slots, described_by, tag_of, item_of, link_of, listed}
+use Rattle.grammar.specs.Described.{Lists, tagged, lead_of, kind_of, laid, laid_slots, described_by, tag_of, item_of, link_of, listed}
 use Rattle.grammar.specs.Lines.{Upto, here, next}
 use Rattle.grammar.specs.Good.{IsTag, NewName, NewTag, GoodTag, GoodLeads, GoodRange, GoodTerm, GoodSlots, Good}
 use Rattle.grammar.proofs.Checks.{good_tag, tag_new, good_leads, name_new}
