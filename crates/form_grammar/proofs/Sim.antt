@@ -135,10 +135,10 @@ module _ {K : Type 0} where
     on_mark_lem b j c (word w) s y h = (refl, refl)
     on_mark_lem b j c (number n) s y h = (refl, refl)
 
-    on_word : (b j c : ℕ) (x : Tok) (g : List ℕ → Option State) (y : List ℕ → FormStep K) (s : State) (z : FormStep K) → ((w : List ℕ) → Matches b j (g w) (y w)) → Matches b j (Some s) z → Matches b j (on_word x g (on_mark c x (Some s) None)) (on_word x y (on_mark c x z (refused 20 b)))
-    on_word b j c (sign a) g y s z h k = both b j (eqb a c) s z k
-    on_word b j c (word w) g y s z h k = h w
-    on_word b j c (number n) g y s z h k = (refl, refl)
+    on_word_lem : (b j c : ℕ) (x : Tok) (g : List ℕ → Option State) (y : List ℕ → FormStep K) (s : State) (z : FormStep K) → ((w : List ℕ) → Matches b j (g w) (y w)) → Matches b j (Some s) z → Matches b j (on_word x g (on_mark c x (Some s) None)) (on_word x y (on_mark c x z (refused 20 b)))
+    on_word_lem b j c (sign a) g y s z h k = both b j (eqb a c) s z k
+    on_word_lem b j c (word w) g y s z h k = h w
+    on_word_lem b j c (number n) g y s z h k = (refl, refl)
 
     -- ---- names of a path
 
@@ -293,14 +293,14 @@ module _ {K : Type 0} where
     sim (path v) f x from b j t r = subst (At b j (path v) x) (sym r) (on_mark_lem b j 40 x (in_path v []) _ (refl, no_names))
     sim (in_path v ws) f x from b j t r =
         subst (At b j (in_path v ws) x) (sym r.0)
-        (on_word b j 41 x (λ w. Some (in_path v (ws ++ (w ∷ [])))) _ (after_path v ws) _
+        (on_word_lem b j 41 x (λ w. Some (in_path v (ws ++ (w ∷ [])))) _ (after_path v ws) _
         (λ w. named_path b j ws w (in_path v (ws ++ (w ∷ []))) (λ l. goes (F (stage.InPath (verb_for v)) l [] nothing))
         (λ short room. (ap (λ l. F (stage.InPath (verb_for v)) l [] nothing) (numbers_push ws w), good_push ws w short room r.1)))
         (path_over b j v ws r.1))
     sim (second p) f x from b j t r = subst (At b j (second p) x) (sym r.0) (on_mark_lem b j 40 x (in_second p []) _ (refl, r.1, no_names))
     sim (in_second p ws) f x from b j t r =
         subst (At b j (in_second p ws) x) (sym r.0)
-        (on_word b j 41 x (λ w. Some (in_second p (ws ++ (w ∷ [])))) _ (close (tie p ws)) _
+        (on_word_lem b j 41 x (λ w. Some (in_second p (ws ++ (w ∷ [])))) _ (close (tie p ws)) _
         (λ w. named_path b j ws w (in_second p (ws ++ (w ∷ []))) (λ l. goes (F stage.InSecondPath (numbers p) l nothing))
         (λ short room. (ap (λ l. F stage.InSecondPath (numbers p) l nothing) (numbers_push ws w), r.1, good_push ws w short room r.2)))
         (record { d = nothing; same = refl; good = r.1; good₂ = r.2; held = refl }))
