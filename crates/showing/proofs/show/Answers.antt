@@ -10,7 +10,7 @@ use Rattle.showing.specs.Progress.{Leading}
 use Rattle.showing.proofs.Answering.{not_nothing, targets_low, tags_are, never_deep, moved, too_long, not_too_long, written}
 use Rattle.showing.proofs.Walking.{one_text}
 use Rattle.showing.proofs.show.Goals as goal
-use Rattle.showing.proofs.show.Goals.{then-length-gt-MOST-BYTES-via-then-length-gt-MOST-BYTES, then-length-gt-MOST-BYTES-via-else-length-gt-MOST-BYTES+then-length-out}
+use Rattle.showing.proofs.show.Goals.{then-length-gt-MOST_BYTES-via-then-length-gt-MOST_BYTES, then-length-gt-MOST_BYTES-via-else-length-gt-MOST_BYTES+then-length-out}
 
 pub returns-then-is_empty : goal.returns-then-is_empty
 returns-then-is_empty g c = record {
@@ -28,8 +28,8 @@ count_leading-leading-requires g c =
       subst (λ (l : List SlotRecord). (i : ℕ) → i < length l → target_at l i < 1000) (sym es) (targets_low g.K.Kind.laws g.V.Vocabulary.texts (shown_places view) (shown_slots view) sheet),
     )
 
-pub returns-then-count_tags-gt-MOST-TAGS : goal.returns-then-count_tags-gt-MOST-TAGS
-returns-then-count_tags-gt-MOST-TAGS g c =
+pub returns-then-count_tags-gt-MOST_TAGS : goal.returns-then-count_tags-gt-MOST_TAGS
+returns-then-count_tags-gt-MOST_TAGS g c =
     let laws = g.K.Kind.laws in
     let texts = g.V.Vocabulary.texts in
     let view = c.args.sheet.now in
@@ -40,13 +40,13 @@ returns-then-count_tags-gt-MOST-TAGS g c =
     let right : Leading table ss = subst (λ (l : List SlotRecord). Leading table l) c.slots-slots.ensures (record { long = c.count_leading-leading.ensures.long; counts = c.count_leading-leading.ensures.counts }) in
     let n : c.count_tags.result ≡ tags (sheet_of laws ps ss) = c.count_tags.ensures ∙ ap (λ (l : _). marked_count table (length l)) c.places-places.ensures ∙ tags_are laws texts ps ss sheet table right in
     record {
-      answer = inr (not_nothing view sheet, inl (omega (arith, c.if-count_tags-gt-MOST-TAGS.true), refl));
+      answer = inr (not_nothing view sheet, inl (omega (arith, c.if-count_tags-gt-MOST_TAGS.true), refl));
       leaves = refl;
       single = one_text laws texts (sheet_of laws ps ss);
     }
 
-pub returns-then-length-gt-MOST-BYTES : goal.returns-then-length-gt-MOST-BYTES
-returns-then-length-gt-MOST-BYTES g c =
+pub returns-then-length-gt-MOST_BYTES : goal.returns-then-length-gt-MOST_BYTES
+returns-then-length-gt-MOST_BYTES g c =
     let laws = g.K.Kind.laws in
     let texts = g.V.Vocabulary.texts in
     let view = c.args.sheet.now in
@@ -60,12 +60,12 @@ returns-then-length-gt-MOST-BYTES g c =
     let n : c.count_tags.result ≡ tags (sheet_of laws ps ss) = c.count_tags.ensures ∙ ap (λ (l : _). marked_count table (length l)) ep ∙ tags_are laws texts ps ss sheet table right in
     let measured = moved laws texts (λ i. sheet_of laws (ep i) (es i)) c.write-length.ensures in
     let long : min 60000 (length c.args.out.now) < c.write-length.result =
-    elim c.then-length-gt-MOST-BYTES.branch [
-      | then-length-gt-MOST-BYTES-via-then-length-gt-MOST-BYTES w ↦ omega (arith, w.if-length-gt-MOST-BYTES.true)
-      | then-length-gt-MOST-BYTES-via-else-length-gt-MOST-BYTES+then-length-out w ↦ omega (arith, w.if-length-out.true)
+    elim c.then-length-gt-MOST_BYTES.branch [
+      | then-length-gt-MOST_BYTES-via-then-length-gt-MOST_BYTES w ↦ omega (arith, w.if-length-gt-MOST_BYTES.true)
+      | then-length-gt-MOST_BYTES-via-else-length-gt-MOST_BYTES+then-length-out w ↦ omega (arith, w.if-length-out.true)
     ] in
     record {
-      answer = inr (not_nothing view sheet, inr ((λ h. omega (arith, c.if-count_tags-gt-MOST-TAGS.false)), inr (never_deep laws texts ps ss sheet, inl (too_long laws texts (sheet_of laws ps ss) _ _ c.args.out.now c.write-length.result measured long, refl))));
+      answer = inr (not_nothing view sheet, inr ((λ h. omega (arith, c.if-count_tags-gt-MOST_TAGS.false)), inr (never_deep laws texts ps ss sheet, inl (too_long laws texts (sheet_of laws ps ss) _ _ c.args.out.now c.write-length.result measured long, refl))));
       leaves = refl;
       single = one_text laws texts (sheet_of laws ps ss);
     }
@@ -86,10 +86,10 @@ returns g c =
     let n : c.count_tags.result ≡ tags (sheet_of laws ps ss) = c.count_tags.ensures ∙ ap (λ (l : _). marked_count table (length l)) ep ∙ tags_are laws texts ps ss sheet table right in
     let measured = moved laws texts (λ i. sheet_of laws (ep i) (es i)) c.write-length.ensures in
     let done = moved laws texts (λ i. sheet_of laws (ep i) (es i)) c.write.ensures in
-    let most : c.write-length.result ≤ 60000 = omega (arith, c.if-length-gt-MOST-BYTES.false) in
+    let most : c.write-length.result ≤ 60000 = omega (arith, c.if-length-gt-MOST_BYTES.false) in
     let fits : c.write-length.result ≤ length c.args.out.now = omega (arith, c.if-length-out.false) in
     record {
-      answer = inr (not_nothing view sheet, inr ((λ h. omega (arith, c.if-count_tags-gt-MOST-TAGS.false)), inr (never_deep laws texts ps ss sheet, inr (not_too_long laws texts s _ _ c.args.out.now c.write-length.result measured most fits, refl))));
+      answer = inr (not_nothing view sheet, inr ((λ h. omega (arith, c.if-count_tags-gt-MOST_TAGS.false)), inr (never_deep laws texts ps ss sheet, inr (not_too_long laws texts s _ _ c.args.out.now c.write-length.result measured most fits, refl))));
       leaves = written laws texts s _ _ c.args.out.now c.write.new.out c.write-length.result c.write.result measured fits done;
       single = one_text laws texts s;
     }

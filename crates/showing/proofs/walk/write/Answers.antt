@@ -35,11 +35,11 @@ step-at-requires g c =
 pub loop-progress-preserved : goal.loop-progress-preserved
 loop-progress-preserved g c =
     since_more g.K.Kind.laws g.V.Vocabulary.texts c.args.places.now c.args.slots.now c.requires.sheet c.args.leading.now c.requires.leading
-    c.open_place-at.new.progress c.loop-progress.progress c.step_at.new.progress c.open_place-at.new.out c.loop-progress.out c.step_at.new.out c.open_place-at.result c.loop-progress.at c.step_at.result
-    c.loop-progress.invariant c.step_at.ensures
+    c.open_place-at.new.progress c.loop-progress.progress c.step-at.new.progress c.open_place-at.new.out c.loop-progress.out c.step-at.new.out c.open_place-at.result c.loop-progress.at c.step-at.result
+    c.loop-progress.invariant c.step-at.ensures
 
 pub loop-progress-smaller : goal.loop-progress-smaller
-loop-progress-smaller g c = c.step_at.ensures.falls
+loop-progress-smaller g c = c.step-at.ensures.falls
 
 pub returns : goal.returns
 returns g c =
