@@ -1,5 +1,5 @@
 -- Writing has one way: after as many turns it has come to the same, and at its end there is no further turn.
-use Rattle.std.proofs.Common.{◌≡◌, ℕ, suc, ◌+◌, ◌<◌, Bool, List, [], ◌∷◌, ◌++◌, Option, refl, ⊎_elim, arith}
+use Rattle.std.proofs.Common.{◌≡◌, ℕ, suc, ◌<◌, Bool, List, [], ◌∷◌, ◌++◌, Option, refl, ⊎_elim, arith}
 use Rattle.kinds.specs.Laws.{KindLaws}
 use Rattle.records.specs.declared.SlotRecord.{SlotRecord}
 use Rattle.records.specs.Sheets.{Sheet}
