@@ -15,12 +15,10 @@ use Rattle.records.proofs.Shape.{owner}
 use Rattle.numbering.specs.Quotient.{Quotient}
 use Rattle.renumbering.specs.Drafts.{Renumbered}
 use Rattle.renumbering.proofs.Drafting.{draft_work}
-use Rattle.sheets.specs.Checks.{IsSheet, Holds}
-use Rattle.reading.specs.Drafts.{Draft, kind_at, slot_at}
+use Rattle.reading.specs.Drafts.{Draft, kind_at}
 use Rattle.reading.specs.Meaning.{Arrow, IsSheetOf}
 use Rattle.placing.specs.Arranged.{Sound, Arranged, drafted}
 use Rattle.placing.specs.Reading.{SheetRead}
-use Rattle.placing.proofs.Filling.{edge_at}
 use Rattle.placing.proofs.Arrangement.{arrow_plain, arrow_back}
 
 arrow_at : {K : Type 0} (d : Draft K) (x x' f y y' : ℕ) → x ≡ x' → y ≡ y' → Arrow d x f y → Arrow d x' f y'

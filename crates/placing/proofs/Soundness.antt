@@ -1,5 +1,5 @@
 -- The draft that a whole line leaves is sound: an induction over its tokens.
-use Rattle.std.proofs.Common.{◌≡◌, ℕ, zero, suc, ◌+◌, ◌-◌, ◌<◌, ◌≤◌, Bool, true, false, cond, ◌&&◌, eqb, ltb, ◌≢◌, List, [], ◌∷◌, ◌++◌, map, length, get_or, set, ℤ, pos, negsuc, Some, None, Option, sym, refl, ap, ◌∙◌, subst, inl, inr, ⊎_elim, arith, length-set}
+use Rattle.std.proofs.Common.{◌≡◌, ℕ, zero, suc, ◌+◌, ◌-◌, ◌<◌, ◌≤◌, true, false, cond, ◌&&◌, eqb, ltb, ◌≢◌, List, [], ◌∷◌, ◌++◌, map, length, get_or, set, ℤ, pos, negsuc, Some, None, Option, sym, refl, ap, ◌∙◌, subst, ⊎_elim, arith, length-set}
 use lib.ListN.{length-map}
 use lib.Signed.{lt_z}
 use Rattle.std.specs.Option.{option_or}
@@ -11,17 +11,15 @@ use Rattle.names.specs.Names as names
 use Rattle.tokens.specs.Tokens.{Tok, mark, word, number, Next, finish, token, refusal, next_token, Ahead}
 use Rattle.tokens.proofs.Ahead.{next_ahead}
 use Rattle.reading.specs.declared.draft.Tag.{Tag}
-use Rattle.reading.specs.declared.draft.Bracket.{Bracket}
 use Rattle.reading.specs.declared.draft.Mode.{Mode}
 use Rattle.reading.specs.declared.draft.Mode.TheVariants.{Begin, Opened, Hashed, Tagged, Low, Dotted, High, Ranged, Inside, Done}
 use Rattle.reading.specs.declared.draft.Place.{Place}
 use Rattle.reading.specs.declared.draft.Target.{Target}
 use Rattle.reading.specs.declared.draft.Target.TheVariants.{To, ByTag}
 use Rattle.reading.specs.declared.draft.Slot.{Slot}
-use Rattle.reading.specs.Drafts.{Draft, nothing, any_of, numbered, described, named, parent_at, tag_at, no_slot, slot_at}
-use Rattle.reading.specs.Steps.{Step, go, fault, on_mark, on_word, on_number, on_some, on_next, tag_number, undescribed_at, undescribed, by_tag, on_step, once, describe, close, refer, slot_named, end_in, no_kind_ahead, kind_first, word_first, range_first, range_last, step_in, read_from, read_place}
-use Rattle.reading.specs.Meaning.{Describes}
-use Rattle.placing.specs.Arranged.{Lands, LedFrom, Sound}
+use Rattle.reading.specs.Drafts.{Draft, nothing, numbered, described, named, parent_at, tag_at, no_slot, slot_at}
+use Rattle.reading.specs.Steps.{Step, go, fault, on_mark, on_word, on_number, on_some, on_next, tag_number, undescribed_at, undescribed, by_tag, on_step, once, describe, end_in, no_kind_ahead, kind_first, step_in, read_from, read_place}
+use Rattle.placing.specs.Arranged.{Lands, Sound}
 use Rattle.reading.specs.Held.{Worded}
 use Rattle.reading.proofs.Words.{next_worded, short_name}
 

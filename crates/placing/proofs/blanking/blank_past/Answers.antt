@@ -1,4 +1,4 @@
-use Rattle.std.proofs.Common.{◌≡◌, ◌-◌, min, ◌++◌, length, take, replicate, ap, ◌∙◌, arith}
+use Rattle.std.proofs.Common.{◌-◌, min, ◌++◌, length, take, replicate, ap, ◌∙◌, arith}
 use Rattle.asks.proofs.Pasting.{blank_none, blank_put, blank_all}
 use Rattle.placing.proofs.Clearing.{drop_least}
 use Rattle.placing.proofs.blanking.blank_past.Goals as goal
