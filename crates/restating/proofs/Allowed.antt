@@ -1,5 +1,5 @@
 -- What the reader checks is as it should be: a new tag is described for the first time, and a place has no name twice.
-use Rattle.std.proofs.Common.{◌≡◌, ℕ, suc, ◌<◌, Bool, true, false, ◌&&◌, eqb, ◌⊎◌, List, [], ◌∷◌, length, Option, sym, refl, ap, ◌∙◌, subst, inr, ⊎_elim, arith}
+use Rattle.std.proofs.Common.{◌≡◌, ℕ, suc, ◌<◌, Bool, true, false, ◌&&◌, eqb, List, [], ◌∷◌, length, Option, sym, refl, ap, ◌∙◌, subst, inr, ⊎_elim, arith}
 use Rattle.std.proofs.lemmas.Bool.{ne_eqb, eqb-true, or_from, and_parts, cases_Bool, both_ways}
 use Rattle.kinds.specs.Laws.{KindLaws}
 use Rattle.records.specs.declared.SlotRecord.{SlotRecord}

@@ -1,5 +1,5 @@
 -- The pieces of a text as they are read: a kind, a place up to its first slot, a place written before, the name of a slot, a bracket.
-use Rattle.std.proofs.Common.{◌≡◌, ℕ, ◌+◌, ◌-◌, ◌<◌, ◌≤◌, Bool, true, false, cond, eqb, ltb, List, [], ◌∷◌, ◌++◌, length, get_or, ℤ, pos, negsuc, ◌≤ℤ◌, Some, None, Option, refl, ap, ◌∙◌, subst, inl, inr, append_assoc, arith}
+use Rattle.std.proofs.Common.{◌≡◌, ℕ, ◌<◌, ◌≤◌, Bool, true, false, cond, eqb, ltb, List, [], ◌∷◌, ◌++◌, length, get_or, ℤ, pos, negsuc, ◌≤ℤ◌, Some, None, Option, refl, ap, ◌∙◌, subst, inl, inr, append_assoc, arith}
 use lib.Signed.{lt_z}
 use Rattle.std.specs.Int.{IsInRange, is_in_range}
 use Rattle.std.specs.Fmt.{signed_decimal}
@@ -12,7 +12,7 @@ use Rattle.names.specs.Spellings.{spelt}
 use Rattle.names.proofs.Spelt.{there_and_back}
 use Rattle.vocabulary.specs.Texts as vocabulary
 use Rattle.vocabulary.specs.Texts.{Text, Word, Ends, Writable, bytes}
-use Rattle.tokens.specs.Tokens.{mark, word, number}
+use Rattle.tokens.specs.Tokens.{mark, word}
 use Rattle.tokens.proofs.Stops.{Stops, WordLike}
 use Rattle.reading.specs.declared.draft.Tag.{Tag}
 use Rattle.reading.specs.declared.draft.Bracket.{Bracket}

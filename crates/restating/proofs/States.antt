@@ -1,5 +1,5 @@
 -- The state of reading a text back: it begins with the root, and a bracket ends a place.
-use Rattle.std.proofs.Common.{◌≡◌, ℕ, zero, suc, ◌-◌, ◌<◌, true, eqb, ◌⊎◌, List, [], ◌∷◌, length, None, Option, refl, ap, ◌∙◌, subst, inl, inr, ⊎_elim, arith}
+use Rattle.std.proofs.Common.{◌≡◌, ℕ, zero, suc, ◌<◌, true, eqb, ◌⊎◌, List, [], ◌∷◌, length, None, Option, refl, ap, ◌∙◌, subst, inl, inr, ⊎_elim, arith}
 use Rattle.std.proofs.lemmas.Bool.{cond-true, cond-false, eq-eqb, ne_eqb, or_cases, eqb-true}
 use Rattle.kinds.specs.Laws.{KindLaws}
 use Rattle.records.specs.declared.SlotRecord.{SlotRecord}
