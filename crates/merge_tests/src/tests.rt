@@ -2,8 +2,8 @@
 mod checks;
 mod drawings;
 mod large;
-mod names;
 mod orders;
 mod refusals;
+mod spelling;
 mod standing;
 mod strays;
