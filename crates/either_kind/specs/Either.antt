@@ -50,11 +50,11 @@ module _ {P F : Type 0} {below_p : P → P → Type 0} {top_p : P} {form_p : P �
   form_of (Second b) = record { tag = 2; first = form_p top_p; second = form_q b }
 
   -- the kind whose form this is: the part in use is a kind's form, and a part not in use is the greatest's
-  abbrev pub by_tag_lem : ℕ → F → G → Option (Either P Q)
-  by_tag_lem zero f g = cond (unused lp f && unused lq g) (Some Any) None
-  by_tag_lem (suc zero) f g = cond (unused lq g) (option_map First (kind_p f)) None
-  by_tag_lem (suc (suc zero)) f g = cond (unused lp f) (option_map Second (kind_q g)) None
-  by_tag_lem (suc (suc (suc n))) f g = None
+  abbrev pub by_tag : ℕ → F → G → Option (Either P Q)
+  by_tag zero f g = cond (unused lp f && unused lq g) (Some Any) None
+  by_tag (suc zero) f g = cond (unused lq g) (option_map First (kind_p f)) None
+  by_tag (suc (suc zero)) f g = cond (unused lp f) (option_map Second (kind_q g)) None
+  by_tag (suc (suc (suc n))) f g = None
 
   abbrev pub kind_of : EitherForm F G → Option (Either P Q)
-  kind_of e = by_tag_lem e.tag e.first e.second
+  kind_of e = by_tag e.tag e.first e.second

@@ -7,7 +7,7 @@ use Rattle.kinds.specs.Laws.{KindLaws, MeetLaws}
 use Rattle.either_kind.specs.declared.either.Either.{Either}
 use Rattle.either_kind.specs.declared.either.Either.TheVariants.{Any, First, Second}
 use Rattle.either_kind.specs.declared.either.EitherForm.{EitherForm}
-use Rattle.either_kind.specs.Either.{holds, is_greatest, unused, Under, joint, form_of, by_tag_lem, kind_of}
+use Rattle.either_kind.specs.Either.{holds, is_greatest, unused, Under, joint, form_of, by_tag, kind_of}
 
 none≢some : {X Y : Type 0} (x : X) → ◌≡◌ {A = Option X} None (Some x) → Y
 none≢some x e = let z : ◌≡◌ {A = ℕ} 0 1 = cc in absurd (omega arith)
@@ -116,7 +116,7 @@ module _ {P F : Type 0} {below_p : P → P → Type 0} {top_p : P} {form_p : P �
       ap (form_of lp lq) (sym t.1.1) ∙ (λ i. record { tag = 2; first = unused_form lp f h i; second = lq.own g t.0 t.1.0 i })
   own_second f g k false h e = none≢some k e
 
-  own_tag : (n : ℕ) (f : F) (g : G) (k : Either P Q) → by_tag_lem lp lq n f g ≡ Some k → form_of lp lq k ≡ record { tag = n; first = f; second = g }
+  own_tag : (n : ℕ) (f : F) (g : G) (k : Either P Q) → by_tag lp lq n f g ≡ Some k → form_of lp lq k ≡ record { tag = n; first = f; second = g }
   own_tag zero f g k e = own_any f g k (unused lp f) (unused lq g) refl refl e
   own_tag (suc zero) f g k e = own_first f g k (unused lq g) refl e
   own_tag (suc (suc zero)) f g k e = own_second f g k (unused lp f) refl e
