@@ -1,6 +1,6 @@
 -- Inputs cut at their newlines.
 use Rattle.std.proofs.Common.{◌≡◌, ℕ, ◌+◌, ◌<◌, true, false, eqb, ◌⊎◌, List, [], ◌∷◌, ◌++◌, length, take, sym, refl, ap, ◌∙◌, inl, inr, ⊎_elim, add-one, arith}
-use Rattle.std.specs.List.{flat_map, AllByRecursion as All}
+use Rattle.std.specs.List.{flat_map, AllByRecursion}
 use Rattle.std.proofs.lemmas.List.{append_assoc, append-nil, flat_map_more}
 use Rattle.std.proofs.ByRecursion.{All-append, All-push}
 use Rattle.std.proofs.lemmas.Bool.{cases_Bool, cases_eq, cond_both, eqb-true, eqb-false, ne_eqb}
@@ -57,7 +57,7 @@ lines_plain (b ∷ (c ∷ cs)) (other, plain) =
     let e = ne_eqb b 10 other in
     rw e (ap (begin b) (lines_plain (c ∷ cs) plain))
 
-lines_joined : (ended : List (List ℕ)) (rest : List ℕ) → All Plain ended → Plain rest → lines (flat_map closed ended ++ rest) ≡ ended ++ last rest
+lines_joined : (ended : List (List ℕ)) (rest : List ℕ) → AllByRecursion Plain ended → Plain rest → lines (flat_map closed ended ++ rest) ≡ ended ++ last rest
 lines_joined [] rest plain end = lines_plain rest end
 lines_joined (line ∷ more) rest (plain, others) end =
     ap lines (append_assoc (closed line) (flat_map closed more) rest)

@@ -1,6 +1,6 @@
 -- The lines of an input, and what is given for a line.
 use Rattle.std.specs.Prelude.{◌≡◌, ℕ, Bool, true, false, cond, List, [], ◌∷◌, ◌++◌, length, ◌==◌, ◌≢◌, nat_le}
-use Rattle.std.specs.List.{flat_map, AllByRecursion as All}
+use Rattle.std.specs.List.{flat_map, AllByRecursion}
 
 -- the byte before an input with these lines, where it is no newline: it begins the first of them, or the only one
 abbrev pub begin : ℕ → List (List ℕ) → List (List ℕ)
@@ -33,7 +33,7 @@ has_newline (b ∷ bs) = cond (b == 10) true (has_newline bs)
 
 -- no byte of it is a newline
 abbrev pub Plain : List ℕ → Type 0
-Plain line = All (λ b. b ≢ 10) line
+Plain line = AllByRecursion (λ b. b ≢ 10) line
 
 -- a line with the newline that ends it
 abbrev pub closed : List ℕ → List ℕ
@@ -41,7 +41,7 @@ closed line = line ++ 10 ∷ []
 
 -- an input is these lines, each with a newline that ends it, and then a rest with no newline
 pub record CutInto (input : List ℕ) (ended : List (List ℕ)) (rest : List ℕ) : Type 0 where
-  pub plain : All Plain ended
+  pub plain : AllByRecursion Plain ended
   pub open_end : Plain rest
   pub together : input ≡ flat_map closed ended ++ rest
 

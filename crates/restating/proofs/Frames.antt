@@ -1,6 +1,6 @@
 -- The open places: for each its slots that are left, and the place in whose brackets it stands.
 use Rattle.std.proofs.Common.{◌≡◌, ℕ, suc, ◌+◌, ◌-◌, ◌<◌, ◌≤◌, List, [], ◌∷◌, ◌++◌, length, get_or, take, drop, Option, ap, ◌∙◌, arith}
-use Rattle.std.specs.List.{AllByRecursion as All}
+use Rattle.std.specs.List.{AllByRecursion}
 use Rattle.std.proofs.lemmas.List.{length-take, length-drop, drop_more}
 use Rattle.kinds.specs.Laws.{KindLaws}
 use Rattle.records.specs.declared.SlotRecord.{SlotRecord}
@@ -49,11 +49,11 @@ Linked places (k ∷ []) = k ≡ 0
 Linked places (k ∷ (j ∷ ks)) = (0 < k) × (parent_at places k ≡ j) × (j < k) × Linked places (j ∷ ks)
 
 module _ {K : Type 0} (places : List (Place K)) where
-  pub linked_below : (b k : ℕ) (ks : List ℕ) → k ≤ b → Linked places (k ∷ ks) → All (λ j. j < b) ks
+  pub linked_below : (b k : ℕ) (ks : List ℕ) → k ≤ b → Linked places (k ∷ ks) → AllByRecursion (λ j. j < b) ks
   linked_below b k [] h l = tt
   linked_below b k (j ∷ ks) h l = (omega (arith, l.2), linked_below b j ks (omega (arith, l.2)) l.3)
 
-  pub linked_kept : (x : Place K) (ks : List ℕ) → All (λ k. k < length places) ks → Linked places ks → Linked (places ++ (x ∷ [])) ks
+  pub linked_kept : (x : Place K) (ks : List ℕ) → AllByRecursion (λ k. k < length places) ks → Linked places ks → Linked (places ++ (x ∷ [])) ks
   linked_kept x [] a l = tt
   linked_kept x (k ∷ []) a l = l
   linked_kept x (k ∷ (j ∷ ks)) a l = (l.0, column_old places x (λ z. z.parent) k 0 a.0 ∙ l.1, l.2, linked_kept x (j ∷ ks) a.1 l.3)
@@ -74,7 +74,7 @@ module _ {K F : Type 0} {below : K → K → Type 0} {top : K} {form : K → F} 
 
   pub frames_kept : (written others : List ℕ) (next after : ℕ → ℕ) (b : ℕ)
       → ((k : ℕ) → k < b → k < length written → (k < length others) × (at written k ≡ at others k) × (next (at written k) ≡ after (at others k)))
-      → (left : List (List SlotRecord)) (ks : List ℕ) → All (λ k. k < b) ks → Frames written next left ks → Frames others after left ks
+      → (left : List (List SlotRecord)) (ks : List ℕ) → AllByRecursion (λ k. k < b) ks → Frames written next left ks → Frames others after left ks
   frames_kept written others next after b keeps [] [] a f = tt
   frames_kept written others next after b keeps [] (k ∷ ks) a f = f
   frames_kept written others next after b keeps (xs ∷ left) [] a f = f

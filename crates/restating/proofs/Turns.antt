@@ -2,7 +2,7 @@
 use Rattle.std.proofs.Common.{◌≡◌, ℕ, zero, suc, ◌+◌, ◌<◌, ◌≤◌, true, List, [], ◌∷◌, ◌++◌, length, get_or, drop, ℤ, pos, negsuc, ◌≤ℤ◌, Option, sym, refl, ap, ◌∙◌, subst, arith, length-drop}
 use Rattle.std.specs.Int.{IsInRange}
 use Rattle.std.specs.Fmt.{signed_decimal}
-use Rattle.std.specs.List.{AllByRecursion as All}
+use Rattle.std.specs.List.{AllByRecursion}
 use Rattle.std.proofs.lemmas.List.{drop-drop, drop_at}
 use Rattle.tokens.specs.Tokens.{Tok, mark, word, number, Next, finish, token, is_mark, next_token}
 use Rattle.tokens.proofs.Ahead.{Ahead, next_ahead}
@@ -86,7 +86,7 @@ module _ {K : Type 0} (words : List ℕ → Option K) (ranges : ℤ → ℤ → 
     pub reads_dots : Reading (46 ∷ 46 ∷ rest) d → ((i j : ℕ) → step words ranges pl sl line d (mark 46) i j ≡ go (f i)) → Reads rest f
     reads_dots r k = (r.from, more r (mark 46) r.from 2 rest (f r.from) (next_dots line r.from rest r.here) refl (k r.from (r.from + 2)))
 
-    pub reads_word : (w : List ℕ) → IsInRange 97 122 (get_or w 0 0) → All WordLike w → length w ≤ 24 → Stops rest → Reading (w ++ rest) d
+    pub reads_word : (w : List ℕ) → IsInRange 97 122 (get_or w 0 0) → AllByRecursion WordLike w → length w ≤ 24 → Stops rest → Reading (w ++ rest) d
         → ((i j : ℕ) → step words ranges pl sl line d (word w) i j ≡ go (f i)) → Reads rest f
     reads_word w first all few stops r k = (
       r.from,
