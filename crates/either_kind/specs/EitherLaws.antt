@@ -6,7 +6,6 @@ use Rattle.std.specs.Option.{option_map}
 use Rattle.kinds.specs.Laws.{KindLaws, MeetLaws}
 use Rattle.either_kind.specs.declared.either.Either.{Either}
 use Rattle.either_kind.specs.declared.either.Either.TheVariants.{Any, First, Second}
-use Rattle.either_kind.specs.declared.either.EitherForm.{EitherForm}
 use Rattle.either_kind.specs.Either.{holds, is_greatest, unused, Under, joint, form_of, by_tag, kind_of}
 
 none≢some : {X Y : Type 0} (x : X) → ◌≡◌ {A = Option X} None (Some x) → Y

@@ -1,15 +1,14 @@
 -- What an add leaves, put together from its checks and from what the merge leaves.
-use Rattle.std.proofs.Common.{◌≡◌, ℕ, ◌+◌, ◌<◌, ◌≤◌, List, length, get_or, take, Some, None, Ok, Err, Option, Result, sym, refl, ap, ◌∙◌, subst, arith}
+use Rattle.std.proofs.Common.{ℕ, ◌<◌, List, take, Some, Err, Option, refl, arith}
 use mathlib.Core.Logic.{∥∥₁_elim}
 use native.Mathlib.Nat.{ℕ_set}
 use Rattle.kinds.specs.Laws.{KindLaws}
 use Rattle.kinds.specs.declared.kind.Kind.{Ghosts}
-use Rattle.records.specs.declared.Counts.{Counts}
-use Rattle.records.specs.Tables.{WellFormed, blank_slot}
+use Rattle.records.specs.Tables.{WellFormed}
 use Rattle.records.specs.Sheets.{Formed, blank_place, sheet_of}
 use Rattle.records.specs.Sheets as records
 use Rattle.sheets.specs.declared.sheet.Sheet as view
-use Rattle.sheets.specs.Refusals.{Answered, refusal}
+use Rattle.sheets.specs.Refusals.{Answered}
 use Rattle.sheets.specs.Shown.{shown_places, shown_slots}
 use Rattle.sheets.proofs.Showing.{formed_prop}
 use Rattle.unification.specs.Merge as merge
@@ -19,10 +18,10 @@ use Rattle.records.proofs.Reading.{formed_read}
 use Rattle.jobs.specs.declared.job.Job.{Job}
 use Rattle.jobs.specs.declared.fault.JobFault.{JobFault}
 use Rattle.jobs.specs.declared.fault.JobFault.TheVariants.{NoRoom, TooLarge, Clash, Sheet}
-use Rattle.jobs.specs.Contents.{Blank, OwnLinks}
-use Rattle.jobs.specs.Jobs.{place_limit, slot_limit, place_count, slot_count, standing_sheet, SameLoans, SameLengths, Tidied, Tidy}
+use Rattle.jobs.specs.Contents.{OwnLinks}
+use Rattle.jobs.specs.Jobs.{place_limit, place_count, slot_count, standing_sheet, SameLoans, SameLengths}
 use Rattle.jobs.specs.Faults.{fault_number}
-use Rattle.jobs.specs.Adding.{add_checks, room_checks, Ready, Stands, Unchanged, Accepted, Clashed, Added, ask_of, NoSheet, all_places, all_slots}
+use Rattle.jobs.specs.Adding.{room_checks, Ready, Stands, Unchanged, Added, ask_of, NoSheet}
 use Rattle.jobs.proofs.Answering.{not_answered}
 
 module _ {K F : Type 0} {g : Ghosts K F} (j : Job K F g) where

@@ -1,5 +1,5 @@
 -- The answer to a list of checks with one more at its end.
-use Rattle.std.proofs.Common.{◌≡◌, ℕ, ◌⊎◌, List, [], ◌∷◌, ◌++◌, Some, None, Option, refl, inl, inr, arith}
+use Rattle.std.proofs.Common.{◌≡◌, ℕ, [], ◌∷◌, ◌++◌, Some, None, Option, refl, inl, inr, arith}
 use Rattle.sheets.specs.Refusals.{Checks, Answered}
 
 none≢some : {Y : Type 0} (n : ℕ) → ◌≡◌ {A = Option ℕ} None (Some n) → Y

@@ -1,16 +1,15 @@
 -- Two sheets side by side whose places are joined through links: the ends of the links are the classes, they can be numbered, and
 -- with the meets of their kinds they are the merge.
-use Rattle.std.proofs.Common.{◌≡◌, ℕ, ◌+◌, ◌-◌, ◌<◌, ◌≤◌, ◌⊎◌, List, map, length, get_or, Option, sym, refl, ap, ◌∙◌, subst, inl, inr, arith}
+use Rattle.std.proofs.Common.{◌≡◌, ℕ, ◌+◌, ◌-◌, ◌<◌, ◌≤◌, List, length, get_or, Option, sym, ap, ◌∙◌, subst, arith}
 use native.Mathlib.Decide.{dec_lt}
 use Rattle.kinds.specs.Laws.{KindLaws, loaded}
-use Rattle.records.specs.declared.PlaceRecord.{PlaceRecord}
-use Rattle.records.specs.Tables.{first_at, count_at, kind_at, target_at}
-use Rattle.records.specs.Sheets.{Sheet, size, width, Slot, Formed, read_place, kind_of}
-use Rattle.records.specs.Beside.{Side, Joined, Beside}
+use Rattle.records.specs.Tables.{kind_at}
+use Rattle.records.specs.Sheets.{Sheet, size, Formed, kind_of}
+use Rattle.records.specs.Beside.{Joined, Beside}
 use Rattle.records.proofs.Reading.{readings, same_size, kind_read, slot_read, read_slot, formed_read, side_read, read_side, joined_read}
 use Rattle.unification.specs.Merge.{Under, IsMerge, Clash, Made}
 use Rattle.unification.proofs.Making.{enough}
-use Rattle.joining.specs.Forest.{Forest, Same, end, link}
+use Rattle.joining.specs.Forest.{Forest, end}
 use Rattle.joining.specs.Two.{EndsJoined}
 use Rattle.joining.proofs.Forests.{end_le, end_ends, end_stays}
 use Rattle.numbering.specs.Quotient.{Work, Quotient}

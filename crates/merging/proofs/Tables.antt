@@ -1,5 +1,5 @@
 -- What the merge leaves of its tables, put together from what each step leaves.
-use Rattle.std.proofs.Common.{◌≡◌, ℕ, ◌+◌, ◌-◌, ◌<◌, ◌≤◌, max, List, [], ◌∷◌, ◌++◌, length, get_or, take, drop, replicate, Some, None, Option, sym, refl, ap, ◌∙◌, subst, append_assoc, arith, take-append-drop, length-take, get_or-take, drop-drop, take_at, drop_at}
+use Rattle.std.proofs.Common.{◌≡◌, ℕ, ◌+◌, ◌-◌, ◌<◌, ◌≤◌, max, List, ◌++◌, length, get_or, take, drop, replicate, Some, None, Option, sym, ap, ◌∙◌, subst, append_assoc, arith, take-append-drop, length-take, get_or-take, drop-drop, take_at, drop_at}
 use native.Mathlib.Decide.{dec_lt}
 use Rattle.std.proofs.lemmas.List.{get_or_past, get_or_default}
 use Rattle.std.specs.List.{range_with_len}
@@ -15,8 +15,8 @@ use Rattle.joining.proofs.Owning.{own_counting}
 use Rattle.asks.specs.Asks.{chained}
 use Rattle.asks.specs.Laying.{tables}
 use Rattle.unification.specs.Merge.{IsMerge}
-use Rattle.merging.specs.Core.{OwnForms, Holds, Merges, Replaced, PlacesAfter, SlotsAfter, Within, Worked}
-use Rattle.merging.specs.United.{Written, UnitedPlaces, UnitedSlots, Cleared, ClearedPlaces, ClearedSlots}
+use Rattle.merging.specs.Core.{OwnForms, Merges, Replaced, PlacesAfter, SlotsAfter, Within, Worked}
+use Rattle.merging.specs.United.{UnitedPlaces, UnitedSlots, Cleared, ClearedPlaces, ClearedSlots}
 
 module _ {R : Type 0} (blank : R) (n c : ℕ) (old made new : List R) (within : c ≤ length made) (rest : drop c made ≡ drop c old) (cleared : Cleared blank n c made new) where
   front : length (take c made) ≡ c

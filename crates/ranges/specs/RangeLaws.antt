@@ -1,6 +1,6 @@
 -- The laws of ranges, shown. (A proof, and nothing that a reader has to believe: it stands here because the trait takes it as
 -- a ghost member.)
-use Rattle.std.specs.Prelude.{◌≡◌, ℕ, ◌⊎◌, ℤ, pos, negsuc, ◌≤ℤ◌, Some, None, Ok, Option, int_le, refl}
+use Rattle.std.specs.Prelude.{◌≡◌, ℕ, ◌⊎◌, ℤ, ◌≤ℤ◌, Some, None, Ok, int_le, refl}
 use Rattle.std.proofs.Common.{sym, ap, ◌∙◌, inl, inr, arith}
 use mathlib.Core.HLevel.{is_prop→PathP}
 use Rattle.std.proofs.Math.Dec.{T_prop}

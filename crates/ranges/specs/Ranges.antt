@@ -1,5 +1,5 @@
 -- Ranges of whole numbers: when two numbers are the ends of one, inclusion, the common part, and the form in a record.
-use Rattle.std.specs.Prelude.{◌≡◌, ◌⊎◌, ℤ, pos, negsuc, ◌≤ℤ◌, Ok, Err, Option, Result}
+use Rattle.std.specs.Prelude.{◌⊎◌, ℤ, pos, negsuc, ◌≤ℤ◌, Ok, Err, Option, Result}
 use Rattle.std.proofs.Common.{inl, inr}
 use Rattle.std.specs.Int.Signed.{le_z_yes, clash_ℤ}
 use Rattle.std.proofs.lemmas.Int.{by_lt_z}

@@ -1,9 +1,9 @@
 -- Sheets: tables with kinds in place of stored forms.
-use Rattle.std.specs.Prelude.{◌≡◌, ℕ, List, [], ◌∷◌, map, length, Option}
+use Rattle.std.specs.Prelude.{ℕ, List, [], ◌∷◌, map, length, Option}
 use Rattle.kinds.specs.Laws.{KindLaws, loaded}
 use Rattle.records.specs.declared.PlaceRecord.{PlaceRecord}
 use Rattle.records.specs.declared.SlotRecord.{SlotRecord}
-use Rattle.records.specs.Tables.{first_at, count_at, kind_at, name_at, target_at, Edge, WellFormed}
+use Rattle.records.specs.Tables.{kind_at, Edge, WellFormed}
 
 -- A sheet over kinds of the type K. Two sheets are equal if they have the same records in the same order.
 pub record Sheet (K : Type 0) : Type 0 where

@@ -1,5 +1,5 @@
 -- Answers that decide a fact.
-use Rattle.std.proofs.Common.{◌≡◌, true, false, Decides, refl}
+use Rattle.std.proofs.Common.{true, false, Decides, refl}
 use Rattle.std.proofs.lemmas.Bool.{false≢true}
 
 pub decides_no : {P : Type 0} → (P → ⊥) → Decides false P

@@ -7,7 +7,7 @@ use Rattle.kinds.specs.Laws.{KindLaws, MeetLaws}
 use Rattle.records.specs.Tables.{target_at}
 use Rattle.records.specs.Sheets.{Sheet, size, width, Slot, Formed, kind_of, blank_sheet}
 use Rattle.records.specs.Beside.{Side, left, right, roots}
-use Rattle.records.proofs.Shape.{Found, found, reached, slot_in, edge_in}
+use Rattle.records.proofs.Shape.{found, reached, slot_in, edge_in}
 use Rattle.records.proofs.Unique.{unique}
 use Rattle.records.proofs.Pigeons.{look}
 use Rattle.unification.specs.Merge.{IsMerge, Clash, Made, Merged, more, Clashing, newest, older}

@@ -1,5 +1,4 @@
 use Rattle.std.proofs.lemmas.Bool.{true≢false, false≢true}
-use Rattle.meets.specs.Classes.{MetInto, Apart}
 use Rattle.meets.proofs.OnePlace.{met_into, none_apart}
 use Rattle.meets.proofs.meet_into.Goals as goal
 

@@ -1,4 +1,4 @@
-use Rattle.std.proofs.Common.{◌≡◌, ℕ, ◌+◌, ◌≤◌, List, ◌++◌, length, take, drop, sym, refl, ap, ◌∙◌, subst, arith, length-take, drop_at}
+use Rattle.std.proofs.Common.{◌≡◌, ℕ, ◌+◌, List, ◌++◌, length, take, drop, ap, ◌∙◌, subst, arith, length-take, drop_at}
 use Rattle.records.specs.Tables.{blank_slot}
 use Rattle.records.specs.Sheets.{Sheet, blank_place, sheet_of}
 use Rattle.joining.specs.Two.{Two}

@@ -1,4 +1,4 @@
-use Rattle.std.proofs.Common.{◌≡◌, ℕ, ◌-◌, max, ◌++◌, take, drop, replicate, sym, refl, ap, ◌∙◌, arith}
+use Rattle.std.proofs.Common.{◌≡◌, ℕ, ◌-◌, max, ◌++◌, take, drop, replicate, sym, refl, ◌∙◌, arith}
 use native.Mathlib.Decide.{dec_lt}
 use Rattle.asks.proofs.Pasting.{blank_none, blank_put, blank_all}
 use Rattle.asks.proofs.blanking.blank_from.Goals as goal

@@ -1,6 +1,5 @@
-use Rattle.std.proofs.Common.{◌≡◌, ℕ, ◌+◌, ◌<◌, ◌≤◌, true, false, leb, length, sym, ap, subst, subst₂, inl, inr, arith}
+use Rattle.std.proofs.Common.{ℕ, ◌<◌, true, false, leb, length, sym, subst₂, inl, inr, arith}
 use Rattle.std.proofs.lemmas.Bool.{and_parts, leb-true}
-use Rattle.records.specs.Tables.{first_at, count_at, name_at, target_at}
 use Rattle.joining.proofs.Walks.{Walked, walked_none, walked_all, walked_covers, walked_left, walked_right, walked_both}
 use Rattle.joining.proofs.closing.join_common.Goals as goal
 use Rattle.joining.proofs.closing.join_common.Goals.{then-loop-i-test+else-j-j_end, else-loop-i-test}

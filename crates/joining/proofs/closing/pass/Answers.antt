@@ -1,8 +1,8 @@
-use Rattle.std.proofs.Common.{◌≡◌, ℕ, ◌+◌, ◌<◌, List, sym, refl, subst, arith, below_none}
+use Rattle.std.proofs.Common.{ℕ, ◌+◌, ◌<◌, List, sym, refl, subst, arith, below_none}
 use Rattle.std.proofs.lemmas.Bool.{or_parts}
 use Rattle.records.specs.Tables.{Edge}
 use Rattle.joining.specs.Closure.{Agree}
-use Rattle.joining.specs.Rings.{Whole, next}
+use Rattle.joining.specs.Rings.{Whole}
 use Rattle.joining.proofs.Growth.{grows_none, grows_then, tells_then, still, quiet_more}
 use Rattle.joining.proofs.Ringing.{rings_none, whole_none, rings_grow}
 use Rattle.joining.proofs.Walks.{closed_all}

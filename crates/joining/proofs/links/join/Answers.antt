@@ -1,4 +1,4 @@
-use Rattle.std.proofs.Common.{◌<◌, length, arith}
+use Rattle.std.proofs.Common.{arith}
 use Rattle.joining.proofs.Forests.{link_up, merges_turned}
 use Rattle.joining.proofs.links.join.Goals as goal
 

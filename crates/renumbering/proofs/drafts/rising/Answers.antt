@@ -1,4 +1,4 @@
-use Rattle.std.proofs.Common.{◌≡◌, ◌<◌, length, refl, arith, below_more}
+use Rattle.std.proofs.Common.{◌<◌, length, refl, arith, below_more}
 use Rattle.renumbering.proofs.Counts.{first_read, count_read, ends}
 use Rattle.renumbering.proofs.Deciding.{decides_no, not_decided}
 use Rattle.renumbering.proofs.drafts.rising.Goals as goal

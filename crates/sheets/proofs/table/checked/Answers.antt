@@ -1,4 +1,4 @@
-use Rattle.std.proofs.Common.{◌≡◌, ◌⊎◌, take, refl, inl, inr, arith}
+use Rattle.std.proofs.Common.{◌⊎◌, take, refl, inl, inr, arith}
 use native.Mathlib.Nat.{sub-zero}
 use Rattle.sheets.specs.Checks.{WrongCounts, Outside, Nameless, NotRising, OtherNumbering}
 use Rattle.sheets.proofs.Answering.{not_decided, neither}

@@ -1,4 +1,4 @@
-use Rattle.std.proofs.Common.{◌≡◌, ◌<◌, length, sym, refl, ap, ◌∙◌, arith, below_more}
+use Rattle.std.proofs.Common.{◌≡◌, ◌<◌, length, refl, ap, ◌∙◌, arith, below_more}
 use Rattle.sheets.specs.Checks.{first, sum_before}
 use Rattle.sheets.proofs.Counting.{first_read, count_read, sum_more, counts_decided}
 use Rattle.sheets.proofs.table.counts.wrong_counts.Goals as goal

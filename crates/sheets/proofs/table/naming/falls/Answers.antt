@@ -1,4 +1,4 @@
-use Rattle.std.proofs.Common.{◌≡◌, ◌<◌, length, refl, arith, below_more}
+use Rattle.std.proofs.Common.{◌<◌, length, refl, arith, below_more}
 use Rattle.sheets.proofs.Answering.{not_decided}
 use Rattle.sheets.proofs.Counting.{first_read, count_read, to_within}
 use Rattle.sheets.proofs.table.naming.falls.Goals as goal

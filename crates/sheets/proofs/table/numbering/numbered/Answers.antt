@@ -1,4 +1,4 @@
-use Rattle.std.proofs.Common.{◌≡◌, ◌⊎◌, ap, inl, inr, arith}
+use Rattle.std.proofs.Common.{◌≡◌, ap, inl, inr, arith}
 use Rattle.std.proofs.lemmas.Bool.{cases_lt}
 use Rattle.records.specs.Tables.{met, target_at}
 use Rattle.sheets.proofs.Numbered.{met_more}

@@ -1,4 +1,4 @@
-use Rattle.std.proofs.Common.{ap, ◌∙◌, w32, SFits, rules}
+use Rattle.std.proofs.Common.{ap, ◌∙◌, w32, SFits}
 use Rattle.std.proofs.lemmas.Int.{to_z-of_z}
 use Rattle.std.specs.Result.{result_ok}
 use Rattle.vocabulary.proofs.alone.RangesAloneVocabularyRange.range.Goals as goal

@@ -1,4 +1,4 @@
-use Rattle.std.proofs.Common.{◌≡◌, ℕ, List, Some, codes, Option, sym, ap, ◌∙◌}
+use Rattle.std.proofs.Common.{ℕ, List, Some, Option, ap, ◌∙◌}
 use Rattle.std.specs.Option.{option_map}
 use Rattle.kinds.specs.declared.catalogue.Catalogue.{Catalogue}
 use Rattle.kinds.specs.Catalogue.{listed}
