@@ -2,7 +2,7 @@
 // psi-term: a place is a node, and a slot is a feature, an edge with a name.
 #![tactic(auto)]
 
-ghost use Rattle.std.specs.Prelude.{◌≡◌, ◌+◌};
+ghost use Rattle.std.specs.Prelude.{◌≡◌, ◌+◌, take, drop};
 ghost use Rattle.records.specs.Tables.{blank_slot, count_at, first_at};
 ghost use Rattle.records.specs.Sheets.{blank_place};
 
@@ -52,20 +52,33 @@ pub fn no_slot() -> SlotRecord
 pub fn first_slot<F: Copy>(places: &[PlaceRecord<F>], p: usize) -> usize
     ensures { result ≡ first_at places.now p }
 {
-    if p < places.len() {
-        places[p].before as usize
-    } else {
-        0
-    }
+    places.get(p).map_or(0, |place| place.before as usize)
 }
 
 // The number of the slot past the last one of the place `p`, and 0 where there is no such place.
 pub fn past_slot<F: Copy>(places: &[PlaceRecord<F>], p: usize) -> usize
     ensures { result ≡ first_at places.now p + count_at places.now p }
 {
-    if p < places.len() {
-        places[p].before as usize + places[p].count as usize
-    } else {
-        0
+    places
+        .get(p)
+        .map_or(0, |place| place.before as usize + place.count as usize)
+}
+
+// The two tables of a sheet, or of two sheets side by side, which are read together.
+#[derive(Clone, Copy)]
+pub struct Tables<'a, F> {
+    pub places: &'a [PlaceRecord<F>],
+    pub slots: &'a [SlotRecord],
+}
+
+impl<'a, F: Copy> Tables<'a, F> {
+    // The slots of the place `p`, as far as the table of slots reaches.
+    pub fn slots_of(&self, p: usize) -> &'a [SlotRecord]
+        ensures { result.now ≡ take (count_at self.now.places.now p) (drop (first_at self.now.places.now p) self.now.slots.now) }
+    {
+        let len = self.slots.len();
+        let from = first_slot(self.places, p).min(len);
+        let upto = past_slot(self.places, p).min(len);
+        &self.slots[from..upto]
     }
 }
