@@ -2,7 +2,8 @@
 // psi-term: a place is a node, and a slot is a feature, an edge with a name.
 #![tactic(auto)]
 
-ghost use Rattle.std.specs.Prelude.{◌≡◌, ◌+◌, take, drop};
+ghost use Rattle.std.specs.Prelude.{◌≡◌, ◌+◌, min, ◌++◌, length, take, drop};
+ghost use Rattle.std.specs.List.{range_with_len};
 ghost use Rattle.records.specs.Tables.{blank_slot, count_at, first_at};
 ghost use Rattle.records.specs.Sheets.{blank_place};
 
@@ -62,6 +63,16 @@ pub fn past_slot<F: Copy>(places: &[PlaceRecord<F>], p: usize) -> usize
     places
         .get(p)
         .map_or(0, |place| place.before as usize + place.count as usize)
+}
+
+// Sets each of the first 65,536 entries to its own number.
+pub fn own_numbers(entries: &mut [u16])
+    ensures { entries.new ≡ range_with_len 0 (min 65536 (length entries.old)) ++ drop 65536 entries.old }
+{
+    let most = entries.len().min(65_536);
+    for (i, entry) in entries[..most].iter_mut().enumerate() {
+        *entry = i as u16;
+    }
 }
 
 // The two tables of a sheet, or of two sheets side by side, which are read together.
