@@ -1,10 +1,11 @@
 // The faults of the job layer, with their numbers. A job fault carries a sheet fault whole.
 ghost use Rattle.std.specs.Prelude.{◌≡◌};
-ghost use Rattle.sheets.specs.Faults.{InLayer};
 ghost use Rattle.jobs.specs.Faults.{fault_number};
+ghost use Rattle.jobs.specs.FaultLaws.{fault_layered};
 ghost use Rattle.jobs.specs.declared.fault.JobFault.TheVariants.{Sheet};
 
-use sheets::fault::{Layer, SheetFault};
+use faults::Fault;
+use sheets::fault::SheetFault;
 
 // Why a call of a job was refused.
 #[derive(Clone, Copy, PartialEq, Eq, Debug)]
@@ -27,24 +28,17 @@ impl From<SheetFault> for JobFault {
     }
 }
 
-impl JobFault {
-    pub fn number(self) -> u8
-        ensures { result ≡ fault_number self }
-    {
+impl Fault for JobFault {
+    ghost numbers = { fault_number };
+
+    ghost layered = { fault_layered };
+
+    fn number(self) -> u8 {
         match self {
             JobFault::NoRoom => 30,
             JobFault::TooLarge => 31,
             JobFault::Clash => 32,
             JobFault::Sheet(fault) => fault.number(),
-        }
-    }
-
-    pub fn layer(self) -> Layer
-        ensures { InLayer result (fault_number self) }
-    {
-        match self {
-            JobFault::NoRoom | JobFault::TooLarge | JobFault::Clash => Layer::Job,
-            JobFault::Sheet(fault) => fault.layer(),
         }
     }
 }

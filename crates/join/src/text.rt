@@ -4,6 +4,7 @@ ghost use Rattle.join.specs.Texts.{kind_text, reply_text};
 
 use crate::draft::OrderKind;
 use either_kind::either::Either;
+use faults::Fault;
 use jobs::fault::JobFault;
 use kinds::catalogue::Catalogue;
 use kinds::kind::Kind;

@@ -1,4 +1,5 @@
 pub mod Faults
+pub mod FaultLaws
 pub mod Drafts
 pub mod Steps
 pub mod Meaning

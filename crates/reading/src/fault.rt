@@ -1,10 +1,11 @@
 // Why a line was not read: a refusal of the text layer whole, or the rule of the grammar or of sheets as text that the line breaks.
 ghost use Rattle.std.specs.Prelude.{◌≡◌};
-ghost use Rattle.tokens.specs.Faults.{InLayer};
 ghost use Rattle.reading.specs.Faults.{rule_number, number_of, byte_of};
+ghost use Rattle.reading.specs.FaultLaws.{fault_layered};
 ghost use Rattle.reading.specs.declared.fault.ReadFault.TheVariants.{Text};
 
-use tokens::fault::{Layer, TextFault};
+use faults::Fault;
+use tokens::fault::TextFault;
 
 // A rule of the grammar or of sheets as text.
 #[derive(Clone, Copy, PartialEq, Eq, Debug)]
@@ -67,16 +68,20 @@ impl Rule {
     }
 }
 
-impl ReadFault {
-    pub fn number(self) -> u8
-        ensures { result ≡ number_of self }
-    {
+impl Fault for ReadFault {
+    ghost numbers = { number_of };
+
+    ghost layered = { fault_layered };
+
+    fn number(self) -> u8 {
         match self {
             ReadFault::Text(fault) => fault.number(),
             ReadFault::Broken(rule, _) => rule.number(),
         }
     }
+}
 
+impl ReadFault {
     // The byte of the line where the fault shows.
     pub fn byte(self) -> Option<usize>
         ensures { result ≡ byte_of self }
@@ -84,15 +89,6 @@ impl ReadFault {
         match self {
             ReadFault::Text(fault) => Some(fault.byte()),
             ReadFault::Broken(_, byte) => Some(byte),
-        }
-    }
-
-    pub fn layer(self) -> Layer
-        ensures { InLayer result (number_of self) }
-    {
-        match self {
-            ReadFault::Text(fault) => fault.layer(),
-            ReadFault::Broken(_, _) => Layer::Sheet,
         }
     }
 }

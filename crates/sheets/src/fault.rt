@@ -1,6 +1,8 @@
 // The faults of the sheet layer, with their numbers.
-ghost use Rattle.std.specs.Prelude.{◌≡◌};
-ghost use Rattle.sheets.specs.Faults.{InLayer, number_of};
+ghost use Rattle.sheets.specs.Faults.{number_of};
+ghost use Rattle.sheets.specs.FaultLaws.{fault_layered};
+
+use faults::Fault;
 
 // Why a call of the sheet layer was refused.
 #[derive(Clone, Copy, PartialEq, Eq, Debug)]
@@ -19,18 +21,12 @@ pub enum SheetFault {
     OtherNumbering,
 }
 
-// Where a refusal comes from.
-#[derive(Clone, Copy, PartialEq, Eq, Debug)]
-pub enum Layer {
-    Text,
-    Sheet,
-    Job,
-}
+impl Fault for SheetFault {
+    ghost numbers = { number_of };
 
-impl SheetFault {
-    pub fn number(self) -> u8
-        ensures { result ≡ number_of self }
-    {
+    ghost layered = { fault_layered };
+
+    fn number(self) -> u8 {
         match self {
             SheetFault::NoPlace => 51,
             SheetFault::TooMany => 28,
@@ -39,11 +35,5 @@ impl SheetFault {
             SheetFault::WrongNames => 53,
             SheetFault::OtherNumbering => 54,
         }
-    }
-
-    pub fn layer(self) -> Layer
-        ensures { InLayer result (number_of self) }
-    {
-        Layer::Sheet
     }
 }

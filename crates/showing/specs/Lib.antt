@@ -1,5 +1,6 @@
 pub mod Shown
 pub mod Faults
+pub mod FaultLaws
 pub mod Writing
 pub mod Walking
 pub mod Tags

@@ -1,9 +1,8 @@
 // The faults of show, with their numbers.
-ghost use Rattle.std.specs.Prelude.{◌≡◌};
-ghost use Rattle.tokens.specs.Faults.{InLayer};
 ghost use Rattle.showing.specs.Faults.{number_of};
+ghost use Rattle.showing.specs.FaultLaws.{fault_layered};
 
-use tokens::fault::Layer;
+use faults::Fault;
 
 // Why a sheet was not shown.
 #[derive(Clone, Copy, PartialEq, Eq, Debug)]
@@ -18,24 +17,17 @@ pub enum ShowFault {
     TooLong,
 }
 
-impl ShowFault {
-    pub fn number(self) -> u8
-        ensures { result ≡ number_of self }
-    {
+impl Fault for ShowFault {
+    ghost numbers = { number_of };
+
+    ghost layered = { fault_layered };
+
+    fn number(self) -> u8 {
         match self {
             ShowFault::NoPlace => 51,
             ShowFault::TooManyTags => 37,
             ShowFault::TooDeep => 38,
             ShowFault::TooLong => 36,
-        }
-    }
-
-    pub fn layer(self) -> Layer
-        ensures { InLayer result (number_of self) }
-    {
-        match self {
-            ShowFault::NoPlace => Layer::Sheet,
-            ShowFault::TooManyTags | ShowFault::TooDeep | ShowFault::TooLong => Layer::Job,
         }
     }
 }

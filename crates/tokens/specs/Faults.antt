@@ -1,9 +1,7 @@
--- The faults of text: the number and the byte of each. And the numbers of every layer.
-use Rattle.std.specs.Prelude.{ℕ, ◌≤◌, ◌⊎◌}
+-- The faults of text: the number and the byte of each.
+use Rattle.std.specs.Prelude.{ℕ}
 use Rattle.tokens.specs.declared.fault.TextFault.{TextFault}
 use Rattle.tokens.specs.declared.fault.TextFault.TheVariants.{LongLine, NoToken, LongWord, WrongNumber}
-use Rattle.tokens.specs.declared.fault.Layer.{Layer}
-use Rattle.tokens.specs.declared.fault.Layer.TheVariants.{Text, Sheet, Job}
 
 -- the number of a fault
 abbrev pub text_number : TextFault → ℕ
@@ -18,9 +16,3 @@ text_byte LongLine = 0
 text_byte (NoToken b) = b
 text_byte (LongWord b) = b
 text_byte (WrongNumber b) = b
-
--- the numbers of a layer
-abbrev pub InLayer : Layer → ℕ → Type 0
-InLayer Text n = (10 ≤ n) × (n ≤ 13)
-InLayer Sheet n = ((20 ≤ n) × (n ≤ 29)) ⊎ ((51 ≤ n) × (n ≤ 54))
-InLayer Job n = (30 ≤ n) × (n ≤ 38)

@@ -1,3 +1,4 @@
 pub mod Faults
+pub mod FaultLaws
 pub mod Tokens
 pub mod Answers

@@ -1,14 +1,9 @@
-// The faults of the text layer, with their numbers, and the layers that faults come from.
+// The faults of the text layer, with their numbers and bytes.
 ghost use Rattle.std.specs.Prelude.{◌≡◌};
-ghost use Rattle.tokens.specs.Faults.{InLayer, text_number, text_byte};
+ghost use Rattle.tokens.specs.Faults.{text_number, text_byte};
+ghost use Rattle.tokens.specs.FaultLaws.{text_layered};
 
-// Where a refusal comes from.
-#[derive(Clone, Copy, PartialEq, Eq, Debug)]
-pub enum Layer {
-    Text,
-    Sheet,
-    Job,
-}
+use faults::Fault;
 
 // Why a line is no list of tokens, with the byte of the line where that shows.
 #[derive(Clone, Copy, PartialEq, Eq, Debug)]
@@ -23,10 +18,12 @@ pub enum TextFault {
     WrongNumber(usize),
 }
 
-impl TextFault {
-    pub fn number(self) -> u8
-        ensures { result ≡ text_number self }
-    {
+impl Fault for TextFault {
+    ghost numbers = { text_number };
+
+    ghost layered = { text_layered };
+
+    fn number(self) -> u8 {
         match self {
             TextFault::LongLine => 10,
             TextFault::NoToken(_) => 11,
@@ -34,7 +31,9 @@ impl TextFault {
             TextFault::WrongNumber(_) => 13,
         }
     }
+}
 
+impl TextFault {
     pub fn byte(self) -> usize
         ensures { result ≡ text_byte self }
     {
@@ -43,11 +42,5 @@ impl TextFault {
             TextFault::NoToken(byte) | TextFault::LongWord(byte) | TextFault::WrongNumber(byte) =>
                 byte,
         }
-    }
-
-    pub fn layer(self) -> Layer
-        ensures { InLayer result (text_number self) }
-    {
-        Layer::Text
     }
 }

@@ -1,7 +1,7 @@
 // Lines of bytes cut into tokens: brackets, hash signs, two dots, words and numbers.
 #![tactic(auto)]
 
-// The faults of the text layer, and the layers of all faults.
+// The faults of the text layer.
 pub mod fault;
 // Tokens, and the one that stands next on a line.
 pub mod token;

@@ -1,6 +1,7 @@
 // The refusals of an add and the order in which they are looked for; paths.
 use super::drawings::{A, B, Drawing, chain, place, slot};
 use super::standing::{check_merge, check_refused};
+use faults::Fault;
 use jobs::fault::JobFault;
 use jobs::{Job, job_over};
 use kinds::catalogue::Catalogue;
