@@ -1,9 +1,12 @@
 -- What an add leaves, put together from its checks and from what the merge leaves.
-use Rattle.std.proofs.Common.{ℕ, ◌<◌, List, take, Some, Err, Option, refl, arith}
+use Rattle.std.proofs.Common.{◌≡◌, ℕ, ◌<◌, List, take, Some, Err, Option, refl, subst, arith}
 use mathlib.Core.Logic.{∥∥₁_elim}
 use native.Mathlib.Nat.{ℕ_set}
 use Rattle.kinds.specs.Laws.{KindLaws}
 use Rattle.kinds.specs.declared.kind.Kind.{Ghosts}
+use Rattle.records.specs.declared.PlaceRecord.{PlaceRecord}
+use Rattle.records.specs.declared.SlotRecord.{SlotRecord}
+use Rattle.records.specs.declared.Counts.{Counts}
 use Rattle.records.specs.Tables.{WellFormed}
 use Rattle.records.specs.Sheets.{Formed, blank_place, sheet_of}
 use Rattle.records.specs.Sheets as records
@@ -13,7 +16,9 @@ use Rattle.sheets.specs.Shown.{shown_places, shown_slots}
 use Rattle.sheets.proofs.Showing.{formed_prop}
 use Rattle.unification.specs.Merge as merge
 use Rattle.unification.proofs.Merging.{greatest, refused, not_both}
+use Rattle.asks.specs.Asks.{chained}
 use Rattle.asks.proofs.Adds.{add_formed}
+use Rattle.merging.specs.Core.{Merges}
 use Rattle.records.proofs.Reading.{formed_read}
 use Rattle.jobs.specs.declared.job.Job.{Job}
 use Rattle.jobs.specs.declared.fault.JobFault.{JobFault}
@@ -62,6 +67,13 @@ module _ {K F : Type 0} {below : K → K → Type 0} {top : K} {form : K → F} 
   refused_early (Sheet fault) a = unchanged j
 
   -- ---- the merge and the clash
+
+  -- what the merge answers of the tables that a sheet shows, it answers of the ask
+  pub asked_merge : {ps : List (PlaceRecord F)} {ss : List SlotRecord} {r o : Option Counts} (qs : List (PlaceRecord F)) (ts : List SlotRecord) → ps ≡ shown_places sheet → ss ≡ shown_slots sheet → r ≡ o
+      → Merges laws (standing_sheet laws j) (chained top path (sheet_of laws ps ss)) r qs ts → Merges laws (standing_sheet laws j) (ask_of laws path sheet) o qs ts
+  asked_merge {ps} {ss} {r} {o} qs ts at_places at_slots is m =
+      subst (λ (a : Option Counts). Merges laws (standing_sheet laws j) (ask_of laws path sheet) a qs ts) is
+      (subst (λ (t : records.Sheet K). Merges laws (standing_sheet laws j) t r qs ts) (λ i. chained top path (sheet_of laws (at_places i) (at_slots i))) m)
 
   module _ (ready : Ready j path sheet) where
     standing : Formed (standing_sheet laws j)

@@ -1,4 +1,3 @@
-mod Filling
 mod Opened
 pub mod Answering
 pub mod Blanks

@@ -1,8 +1,8 @@
 -- What stands in tables that were just made blank.
-use Rattle.std.proofs.Common.{◌≡◌, ℕ, zero, suc, ◌+◌, ◌<◌, List, [], ◌∷◌, length, take, drop, replicate, Option, unwrap_or, sym, refl, ap, ◌∙◌, subst, arith}
+use Rattle.std.proofs.Common.{◌≡◌, ℕ, zero, suc, ◌+◌, ◌-◌, ◌<◌, ◌≤◌, min, max, List, [], ◌∷◌, ◌++◌, length, take, drop, replicate, Option, unwrap_or, sym, refl, ap, ◌∙◌, subst, arith, length-take, append-nil}
 use lib.ListN.{length-replicate, get_or-replicate}
 use Rattle.std.specs.List.{range_with_len}
-use Rattle.std.proofs.lemmas.List.{get_or_append_left}
+use Rattle.std.proofs.lemmas.List.{get_or_append_left, drop_all}
 use Rattle.std.proofs.lemmas.List.FromFn.{length-range_with_len, get_or-range_with_len}
 use Rattle.kinds.specs.Laws.{KindLaws}
 use Rattle.records.specs.declared.PlaceRecord.{PlaceRecord}
@@ -25,6 +25,21 @@ numbered_own n xs k high =
     let within : k < length (range_with_len 0 n) = omega (arith, length-range_with_len 0 n) in
     let own : 0 + k ≡ k = omega arith in
     get_or_append_left (range_with_len 0 n) (drop n xs) 0 k within ∙ get_or-range_with_len 0 n k 0 high ∙ own
+
+-- ---- what blanking and numbering leave
+
+pub front_filled : {X : Type 0} (n p : ℕ) (own blank : X) (old : List X) {new : List X} → new ≡ take 0 old ++ replicate (n - 0) own ++ drop (max 0 n) old → own ≡ blank → n ≡ p → new ≡ filled p blank old
+front_filled n p own blank old e same is =
+    let zero : n - 0 ≡ p = omega arith in
+    let most : max 0 n ≡ p = omega arith in
+    e ∙ (λ i. replicate (zero i) (same i) ++ drop (most i) old)
+
+pub front_numbered : (n p : ℕ) (old : List ℕ) {own : List ℕ} → n ≡ p → p ≤ length old → p ≤ 1000 → own ≡ range_with_len 0 (min 65536 (length (take n old))) ++ drop 65536 (take n old) → own ++ drop n old ≡ numbered p old
+front_numbered n p old is room few e =
+    let long : length (take n old) ≡ n = length-take n old ∙ omega arith in
+    let count : min 65536 (length (take n old)) ≡ p = omega arith in
+    let none : drop 65536 (take n old) ≡ [] = drop_all 65536 (take n old) (omega arith) in
+    ap (λ l. l ++ drop n old) (e ∙ (λ i. range_with_len 0 (count i) ++ none i) ∙ append-nil (range_with_len 0 p)) ∙ ap (λ k. range_with_len 0 p ++ drop k old) is
 
 -- ---- a table that a job with room was opened on
 

@@ -4,7 +4,6 @@
 
 pub mod fault;
 pub mod job;
-mod tables;
 
 pub use job::{Job, State};
 

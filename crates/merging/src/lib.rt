@@ -13,7 +13,7 @@ ghost use Rattle.merging.specs.United.{ClearedPlaces, ClearedSlots};
 
 use asks::{blank_from, lay_beside};
 use kinds::kind::Kind;
-use records::{Counts, PlaceRecord, SlotRecord, no_place, no_slot};
+use records::{Counts, PlaceRecord, SlotRecord, Tables, no_place, no_slot};
 use uniting::unite;
 
 // Blanks what is left of the standing sheet past the one that was written over it.
@@ -27,12 +27,9 @@ fn blank_past<K: Kind>(
     ensures places { ClearedPlaces (blank_place K.Kind.laws) standing.places made places.old places.new }
     ensures slots { ClearedSlots standing.slots made slots.old slots.new }
 {
-    match made {
-        Some(counts) => {
-            blank_from(places, counts.places, standing.places, no_place::<K>());
-            blank_from(slots, counts.slots, standing.slots, no_slot());
-        }
-        None => {}
+    if let Some(counts) = made {
+        blank_from(places, counts.places, standing.places, no_place::<K>());
+        blank_from(slots, counts.slots, standing.slots, no_slot());
     }
 }
 
@@ -44,36 +41,35 @@ pub fn merge<K: Kind>(
     slots: &mut [SlotRecord],
     standing: Counts,
     path: &[u64],
-    asked_places: &[PlaceRecord<K::Form>],
-    asked_slots: &[SlotRecord],
+    asked: Tables<'_, K::Form>,
     work_places: &mut [PlaceRecord<K::Form>],
     work_slots: &mut [SlotRecord],
     links: &mut [u16],
 ) -> Option<Counts>
     requires stands { WellFormed (take standing.places places.old) (take standing.slots slots.old) }
     requires counted { (standing.places ≤ length places.old) × (standing.slots ≤ length slots.old) }
-    requires asked { WellFormed asked_places.now asked_slots.now }
-    requires places { (standing.places + length path.now + length asked_places.now ≤ length places.old) × ((standing.places + length path.now + length asked_places.now ≤ length work_places.old) × ((standing.places + length path.now + length asked_places.now ≤ length links.old) × (standing.places + length path.now + length asked_places.now ≤ 1000))) }
-    requires slots { (standing.slots + length path.now + length asked_slots.now ≤ length slots.old) × ((standing.slots + length path.now + length asked_slots.now ≤ length work_slots.old) × (standing.slots + length path.now + length asked_slots.now ≤ 4000)) }
-    requires own { (x : ℕ) → x < standing.places + length path.now + length asked_places.now → slice_index links.old x ≡ x }
-    ensures answer { Merges K.Kind.laws (sheet_of K.Kind.laws (take standing.places places.old) (take standing.slots slots.old)) (chained K.Kind.top path.now (sheet_of K.Kind.laws asked_places.now asked_slots.now)) result places.new slots.new }
-    ensures within { Within (standing.places + length path.now + length asked_places.now) (standing.slots + length path.now + length asked_slots.now) result }
+    requires asked { WellFormed asked.places.now asked.slots.now }
+    requires places { (standing.places + length path.now + length asked.places.now ≤ length places.old) × ((standing.places + length path.now + length asked.places.now ≤ length work_places.old) × ((standing.places + length path.now + length asked.places.now ≤ length links.old) × (standing.places + length path.now + length asked.places.now ≤ 1000))) }
+    requires slots { (standing.slots + length path.now + length asked.slots.now ≤ length slots.old) × ((standing.slots + length path.now + length asked.slots.now ≤ length work_slots.old) × (standing.slots + length path.now + length asked.slots.now ≤ 4000)) }
+    requires own { (x : ℕ) → x < standing.places + length path.now + length asked.places.now → slice_index links.old x ≡ x }
+    ensures answer { Merges K.Kind.laws (sheet_of K.Kind.laws (take standing.places places.old) (take standing.slots slots.old)) (chained K.Kind.top path.now (sheet_of K.Kind.laws asked.entry.places.now asked.entry.slots.now)) result places.new slots.new }
+    ensures within { Within (standing.places + length path.now + length asked.entry.places.now) (standing.slots + length path.now + length asked.entry.slots.now) result }
     ensures places { PlacesAfter (blank_place K.Kind.laws) standing.places result places.old places.new }
     ensures slots { SlotsAfter standing.slots result slots.old slots.new }
-    ensures work_places { Worked (blank_place K.Kind.laws) (standing.places + length path.now + length asked_places.now) work_places.old work_places.new }
-    ensures work_slots { Worked blank_slot (standing.slots + length path.now + length asked_slots.now) work_slots.old work_slots.new }
+    ensures work_places { Worked (blank_place K.Kind.laws) (standing.places + length path.now + length asked.entry.places.now) work_places.old work_places.new }
+    ensures work_slots { Worked blank_slot (standing.slots + length path.now + length asked.entry.slots.now) work_slots.old work_slots.new }
     ensures links { links.new ≡ links.old }
 {
     let n = standing.places;
     let m = standing.slots;
-    let all_places = n + path.len() + asked_places.len();
-    let all_slots = m + path.len() + asked_slots.len();
+    let all_places = n + path.len() + asked.places.len();
+    let all_slots = m + path.len() + asked.slots.len();
     lay_beside(
         &places[..n],
         &slots[..m],
         path,
-        asked_places,
-        asked_slots,
+        asked.places,
+        asked.slots,
         work_places,
         work_slots,
         K::greatest().store(),

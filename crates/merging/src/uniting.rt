@@ -18,8 +18,8 @@ fn flatten(links: &[u16], ends: &mut [u16])
     requires within { (length links.now ≤ length ends.old) × (length links.now ≤ 65535) }
     ensures { (x : ℕ) → x < length links.now → slice_index ends.new x ≡ end links.now x }
 {
-    for x in 0..links.len() {
-        ends[x] = end_of(links, x) as u16;
+    for (x, end) in ends[..links.len()].iter_mut().enumerate() {
+        *end = end_of(links, x) as u16;
     }
 }
 

@@ -13,7 +13,7 @@ use crate::fault::JobFault;
 use kinds::kind::Kind;
 use merging::merge;
 use names::spelling::of_number::is_name;
-use records::Counts;
+use records::{Counts, Tables};
 use sheets::fault::SheetFault;
 use sheets::sheet::Sheet;
 
@@ -24,12 +24,7 @@ const MOST_NAMES: usize = 16;
 fn nameless(path: &[u64]) -> bool
     ensures { Decides result (Nameless path.now) }
 {
-    for name in path {
-        if !is_name(*name) {
-            return true;
-        }
-    }
-    false
+    !path.iter().all(|name| is_name(*name))
 }
 
 // Whether a sheet can be asked for at a path: it shows something, and the path is one.
@@ -82,34 +77,22 @@ impl<'a, K: Kind> Job<'a, K> {
         ensures lengths { SameLengths self.new self.old }
     {
         self.admit(path, sheet)?;
-        let standing = self.state.standing;
-        let places = std::mem::take(&mut self.places);
-        let slots = std::mem::take(&mut self.slots);
-        let work_places = std::mem::take(&mut self.work_places);
-        let work_slots = std::mem::take(&mut self.work_slots);
-        let links = std::mem::take(&mut self.links);
+        let asked = Tables {
+            places: sheet.places(),
+            slots: sheet.slots(),
+        };
         let made = merge::<K>(
-            places,
-            slots,
-            standing,
+            self.places,
+            self.slots,
+            self.state.standing,
             path,
-            sheet.places(),
-            sheet.slots(),
-            work_places,
-            work_slots,
-            links,
+            asked,
+            self.work_places,
+            self.work_slots,
+            self.links,
         );
-        self.places = places;
-        self.slots = slots;
-        self.work_places = work_places;
-        self.work_slots = work_slots;
-        self.links = links;
-        match made {
-            Some(counts) => {
-                self.state.standing = counts;
-                Ok(counts)
-            }
-            None => Err(JobFault::Clash),
-        }
+        let counts = made.ok_or(JobFault::Clash)?;
+        self.state.standing = counts;
+        Ok(counts)
     }
 }

@@ -4,22 +4,24 @@ ghost use Rattle.records.specs.Sheets.{blank_sheet};
 ghost use Rattle.jobs.specs.Jobs.{place_room, slot_room, shelf_place_room, shelf_slot_room, place_limit, slot_limit, place_count, slot_count, standing_sheet, Opened, Tidy, SameLoans, SameLengths};
 
 use super::{Job, MOST_PLACES, MOST_SHELF_PLACES, MOST_SHELF_SLOTS, MOST_SLOTS, State};
-use crate::tables::{blank_first, number_first};
+use asks::blank_from;
 use kinds::kind::Kind;
-use records::{Counts, no_place, no_slot};
+use records::{Counts, no_place, no_slot, own_numbers};
+
+// The counts of no places and no slots.
+const NOTHING: Counts = Counts {
+    places: 0,
+    slots: 0,
+};
 
 impl State {
     // The numbers of a job that was never opened.
     pub fn closed() -> State
         ensures { (result.limits.places ≡ 0) × (result.limits.slots ≡ 0) × (result.standing.places ≡ 0) × (result.standing.slots ≡ 0) }
     {
-        let none = Counts {
-            places: 0,
-            slots: 0,
-        };
         State {
-            limits: none,
-            standing: none,
+            limits: NOTHING,
+            standing: NOTHING,
         }
     }
 
@@ -28,10 +30,12 @@ impl State {
         ensures limits { (result.limits.places ≡ limits.places) × (result.limits.slots ≡ limits.slots) }
         ensures counts { (result.standing.places ≡ min limits.places 1) × (result.standing.slots ≡ 0) }
     {
-        let places = limits.places.min(1);
         State {
             limits,
-            standing: Counts { places, slots: 0 },
+            standing: Counts {
+                places: limits.places.min(1),
+                slots: 0,
+            },
         }
     }
 }
@@ -43,11 +47,9 @@ impl<'a, K: Kind> Job<'a, K> {
         ensures slots { result.slots ≡ slot_room self.now }
     {
         let work = self.work_places.len().min(self.links.len());
-        let places = self.places.len().min(work);
-        let slots = self.slots.len().min(self.work_slots.len());
         Counts {
-            places: MOST_PLACES.min(places),
-            slots: MOST_SLOTS.min(slots),
+            places: MOST_PLACES.min(self.places.len().min(work)),
+            slots: MOST_SLOTS.min(self.slots.len().min(self.work_slots.len())),
         }
     }
 
@@ -56,9 +58,10 @@ impl<'a, K: Kind> Job<'a, K> {
         ensures places { result.places ≡ shelf_place_room self.now }
         ensures slots { result.slots ≡ shelf_slot_room self.now }
     {
-        let places = MOST_SHELF_PLACES.min(self.shelf_places.len());
-        let slots = MOST_SHELF_SLOTS.min(self.shelf_slots.len());
-        Counts { places, slots }
+        Counts {
+            places: MOST_SHELF_PLACES.min(self.shelf_places.len()),
+            slots: MOST_SHELF_SLOTS.min(self.shelf_slots.len()),
+        }
     }
 
     // How many places and slots the standing sheet has; none before a job with room is opened.
@@ -88,29 +91,15 @@ impl<'a, K: Kind> Job<'a, K> {
             return;
         }
         let shelf = self.shelf_room();
-        let place = no_place::<K>();
-        let slot = no_slot();
-        let places = std::mem::take(&mut self.places);
-        let slots = std::mem::take(&mut self.slots);
-        let work_places = std::mem::take(&mut self.work_places);
-        let work_slots = std::mem::take(&mut self.work_slots);
-        let links = std::mem::take(&mut self.links);
-        let shelf_places = std::mem::take(&mut self.shelf_places);
-        let shelf_slots = std::mem::take(&mut self.shelf_slots);
-        blank_first(places, limits.places, place);
-        blank_first(slots, limits.slots, slot);
-        blank_first(work_places, limits.places, place);
-        blank_first(work_slots, limits.slots, slot);
-        number_first(links, limits.places);
-        blank_first(shelf_places, shelf.places, place);
-        blank_first(shelf_slots, shelf.slots, slot);
-        self.places = places;
-        self.slots = slots;
-        self.work_places = work_places;
-        self.work_slots = work_slots;
-        self.links = links;
-        self.shelf_places = shelf_places;
-        self.shelf_slots = shelf_slots;
+        // While the tables are written, the job is a closed one.
+        self.state = State::closed();
+        blank_from(self.places, 0, limits.places, no_place::<K>());
+        blank_from(self.slots, 0, limits.slots, no_slot());
+        blank_from(self.work_places, 0, limits.places, no_place::<K>());
+        blank_from(self.work_slots, 0, limits.slots, no_slot());
+        own_numbers(&mut self.links[..limits.places]);
+        blank_from(self.shelf_places, 0, shelf.places, no_place::<K>());
+        blank_from(self.shelf_slots, 0, shelf.slots, no_slot());
         self.state = state;
     }
 }

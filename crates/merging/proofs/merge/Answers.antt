@@ -12,9 +12,9 @@ use Rattle.merging.proofs.merge.Goals as goal
 pub unite-made-requires : goal.unite-made-requires
 unite-made-requires g c =
     let any = g.K.Kind.form g.K.Kind.top in
-    let asked : Sheet g.row.K-Form.Denot = record { places = c.args.asked_places.now; slots = c.args.asked_slots.now } in
-    let n : ℕ = c.args.standing.places + length c.args.path.now + length c.args.asked_places.now in
-    let m : ℕ = c.args.standing.slots + length c.args.path.now + length c.args.asked_slots.now in
+    let asked : Sheet g.row.K-Form.Denot = record { places = c.args.asked.places.now; slots = c.args.asked.slots.now } in
+    let n : ℕ = c.args.standing.places + length c.args.path.now + length c.args.asked.places.now in
+    let m : ℕ = c.args.standing.slots + length c.args.path.now + length c.args.asked.slots.now in
     let lp = c.lay_beside.ensures.places_length in
     let ls = c.lay_beside.ensures.slots_length in
     record {
@@ -40,9 +40,9 @@ returns g c =
     let any = g.K.Kind.form g.K.Kind.top in
     let path : List ℕ = c.args.path.now in
     let standing : Sheet g.row.K-Form.Denot = record { places = take c.args.standing.places c.args.places.now; slots = take c.args.standing.slots c.args.slots.now } in
-    let asked : Sheet g.row.K-Form.Denot = record { places = c.args.asked_places.now; slots = c.args.asked_slots.now } in
-    let n : ℕ = c.args.standing.places + length path + length c.args.asked_places.now in
-    let m : ℕ = c.args.standing.slots + length path + length c.args.asked_slots.now in
+    let asked : Sheet g.row.K-Form.Denot = record { places = c.args.asked.places.now; slots = c.args.asked.slots.now } in
+    let n : ℕ = c.args.standing.places + length path + length c.args.asked.places.now in
+    let m : ℕ = c.args.standing.slots + length path + length c.args.asked.slots.now in
     let lp = c.lay_beside.ensures.places_length in
     let ls = c.lay_beside.ensures.slots_length in
     let two : Two (take n c.lay_beside.new.work_places) (take m c.lay_beside.new.work_slots) c.args.standing.places =
@@ -71,11 +71,11 @@ returns g c =
     let all_slots : length (take m c.lay_beside.new.work_slots) ≡ m = simp length-take (omega arith) in
     let front : length c.unite-made.new.work_places ≡ n = c.unite-made.auto.work_places ∙ simp length-take (omega arith) in
     let past_places : drop n c.lay_beside.new.work_places ≡ drop n c.args.work_places.now =
-    subst (λ (x : ℕ). drop (x + length path + length c.args.asked_places.now) c.lay_beside.new.work_places ≡ drop (x + length path + length c.args.asked_places.now) c.args.work_places.now)
+    subst (λ (x : ℕ). drop (x + length path + length c.args.asked.places.now) c.lay_beside.new.work_places ≡ drop (x + length path + length c.args.asked.places.now) c.args.work_places.now)
     two.from c.lay_beside.ensures.places_past in
     let wide : length (take c.args.standing.slots c.args.slots.now) ≡ c.args.standing.slots = simp length-take (omega arith) in
     let past_slots : drop m c.lay_beside.new.work_slots ≡ drop m c.args.work_slots.now =
-    subst (λ (x : ℕ). drop (x + length path + length c.args.asked_slots.now) c.lay_beside.new.work_slots ≡ drop (x + length path + length c.args.asked_slots.now) c.args.work_slots.now)
+    subst (λ (x : ℕ). drop (x + length path + length c.args.asked.slots.now) c.lay_beside.new.work_slots ≡ drop (x + length path + length c.args.asked.slots.now) c.args.work_slots.now)
     wide c.lay_beside.ensures.slots_past in
     record {
       answer = held.0;

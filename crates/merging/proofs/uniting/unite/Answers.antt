@@ -12,18 +12,12 @@ meet_classes-requires g c =
     two.formed_s two.formed_t two.beside c.join_roots.new.links c.flatten.new.ends
     c.join_roots.ensures.forest (omega arith) (λ x h. c.flatten.ensures x (omega arith)) (c.join_roots.ensures.joined two)
 
-pub returns-then-not-meet_classes : goal.returns-then-not-meet_classes
-returns-then-not-meet_classes g c =
-    record {
-      answer = λ two.
-          classes_clash g.K.Kind.laws two.s two.t (record { places = c.args.work_places.now; slots = c.args.work_slots.now })
-          two.formed_s two.formed_t two.beside c.join_roots.new.links c.flatten.new.ends
-          c.join_roots.ensures.forest (omega arith) (λ x h. c.flatten.ensures x (omega arith)) (c.join_roots.ensures.joined two)
-          (c.meet_classes.ensures.clash c.if-not-meet_classes.true);
-      places = refl;
-      slots = refl;
-      links = c.drop-guard.ensures ∙ ap (range_with_len 0) (omega arith);
-    }
+pub returns-then-not-meet_classes-clause-answer : goal.returns-then-not-meet_classes-clause-answer
+returns-then-not-meet_classes-clause-answer g c two =
+    classes_clash g.K.Kind.laws two.s two.t (record { places = c.args.work_places.now; slots = c.args.work_slots.now })
+    two.formed_s two.formed_t two.beside c.join_roots.new.links c.flatten.new.ends
+    c.join_roots.ensures.forest (omega arith) (λ x h. c.flatten.ensures x (omega arith)) (c.join_roots.ensures.joined two)
+    (c.meet_classes.ensures.clash c.if-not-meet_classes.true)
 
 pub number-requires : goal.number-requires
 number-requires g c =
@@ -41,28 +35,20 @@ number-requires g c =
       output = (omega arith, omega arith);
     }
 
-pub returns : goal.returns
-returns g c =
+pub returns-clause-answer : goal.returns-clause-answer
+returns-clause-answer g c two =
     let w : Sheet g.row.K-Form.Denot = record { places = c.args.work_places.now; slots = c.args.work_slots.now } in
     let v : Sheet g.row.K-Form.Denot = record { places = c.meet_classes.new.places; slots = c.args.work_slots.now } in
     let m : Sheet g.row.K-Form.Denot = record { places = take c.number.result.places c.number.new.outp; slots = take c.number.result.slots c.number.new.outs } in
-    let same : length c.meet_classes.new.places ≡ length c.args.work_places.now = c.meet_classes.ensures.kept.size in
     let alike = kept_alike w v c.flatten.new.ends c.meet_classes.ensures.kept refl in
-    let within = c.number.ensures.within in
+    let room : size w ≤ length c.flatten.new.ends = omega arith in
+    let flat : (x : ℕ) → x < size w → get_or c.flatten.new.ends x 0 ≡ end c.join_roots.new.links x = λ x h. c.flatten.ensures x (omega arith) in
+    let forest = c.join_roots.ensures.forest in
+    let joined = c.join_roots.ensures.joined two in
+    let met = c.meet_classes.ensures.met c.if-not-meet_classes.false in
+    let shape = classes_shaped two.s two.t w two.formed_s two.formed_t two.beside c.join_roots.new.links c.flatten.new.ends forest room flat joined v alike m c.number.ensures.quotient in
     record {
-      answer = λ two.
-          let room : size w ≤ length c.flatten.new.ends = omega arith in
-          let flat : (x : ℕ) → x < size w → get_or c.flatten.new.ends x 0 ≡ end c.join_roots.new.links x = λ x h. c.flatten.ensures x (omega arith) in
-          let forest = c.join_roots.ensures.forest in
-          let joined = c.join_roots.ensures.joined two in
-          let met = c.meet_classes.ensures.met c.if-not-meet_classes.false in
-          let shape = classes_shaped two.s two.t w two.formed_s two.formed_t two.beside c.join_roots.new.links c.flatten.new.ends forest room flat joined v alike m c.number.ensures.quotient in
-          record {
-            formed = c.number.ensures.quotient.formed;
-            merge = classes_merge g.K.Kind.laws two.s two.t w two.formed_s two.formed_t two.beside c.join_roots.new.links c.flatten.new.ends forest room flat joined v alike met m shape;
-            own = classes_own g.K.Kind.laws two.s two.t w two.formed_s two.formed_t two.beside c.join_roots.new.links c.flatten.new.ends forest room flat joined v alike met m shape;
-          };
-      places = record { most = omega arith; rest = c.number.ensures.kept.0 };
-      slots = record { most = within.1; rest = c.number.ensures.kept.1 };
-      links = c.drop-guard-2.ensures ∙ ap (range_with_len 0) (omega arith);
+      formed = c.number.ensures.quotient.formed;
+      merge = classes_merge g.K.Kind.laws two.s two.t w two.formed_s two.formed_t two.beside c.join_roots.new.links c.flatten.new.ends forest room flat joined v alike met m shape;
+      own = classes_own g.K.Kind.laws two.s two.t w two.formed_s two.formed_t two.beside c.join_roots.new.links c.flatten.new.ends forest room flat joined v alike met m shape;
     }
