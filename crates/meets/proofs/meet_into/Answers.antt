@@ -12,4 +12,4 @@ pub returns-clause-ok : goal.returns-clause-ok
 returns-clause-ok g c =
     let some : Some c.in_ok-both.both ≡ g.K.Kind.common c.kind_of-held.result c.kind_of-other.result = search rules in
     met_into g.K.Kind.laws g.K.Kind.meets c.args.places.now c.args.end c.args.x _ _ c.kind_of-held.ensures c.kind_of-other.ensures
-    c.in_ok-both.both c.store.result c.index-places-end.result some c.store.ensures c.requires.0
+    c.in_ok-both.both c.store.result _ some c.store.ensures c.requires.0
