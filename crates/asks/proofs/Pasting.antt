@@ -1,60 +1,46 @@
--- Loops that write one list over a part of another.
-use Rattle.std.proofs.Common.{◌≡◌, ℕ, ◌+◌, ◌-◌, ◌<◌, ◌≤◌, List, ◌++◌, map, length, get_or, take, drop, set, replicate, sym, refl, ap, ◌∙◌, append_assoc, arith, length-append}
+-- Lists that are written over the front of another, and over a part of another behind the front.
+use Rattle.std.proofs.Common.{◌≡◌, ℕ, ◌+◌, ◌-◌, ◌<◌, ◌≤◌, List, ◌++◌, [], length, get_or, take, drop, set, replicate, sym, ap, ◌∙◌, append_assoc, arith, length-append}
 use lib.Seq.{paste}
-use Rattle.std.proofs.lemmas.List.{get_or-map, take_all, take_at, drop_at, drop-drop, length-replicate}
-use Rattle.std.proofs.lemmas.List.Edits.{paste_none, paste_more, paste_all, paste-paste, fill_from_more}
+use borrow.Rule.Slice.PartMut.{put_mid}
+use Rattle.std.proofs.lemmas.List.{take_all, take_at, drop_all, drop_at, drop-drop, length-drop, append-nil}
+use Rattle.std.proofs.lemmas.List.Edits.{paste_more, paste_all, fill_from_more}
 
 module _ {A : Type 0} where
   -- one more element of the list s is written
-  pub paste_put : (d new : List A) (at : ℕ) (s : List A) (i : ℕ) (v : A) → new ≡ paste d at s i → v ≡ get_or s i v → at + i < length d → i < length s
-      → set new (at + i) v ≡ paste d at s (i + 1)
-  paste_put d new at s i v e is hd hs = ap (λ l. set l (at + i) v) e ∙ ap (set (paste d at s i) (at + i)) is ∙ paste_more d at s i v hd hs
+  pub front_put : (d new s : List A) (i : ℕ) (v : A) → new ≡ paste d 0 s i → v ≡ get_or s i v → i < length d → i < length s
+      → set new i v ≡ paste d 0 s (i + 1)
+  front_put d new s i v e is hd hs =
+      let at : i ≡ 0 + i = omega arith in
+      ap (λ l. set l i v) e ∙ ap (set (paste d 0 s i) i) is ∙ ap (λ k. set (paste d 0 s i) k (get_or s i v)) at ∙ paste_more d 0 s i v (omega arith) hs
 
-  -- two lists are written, the second right behind the first
-  pub pasted_both : (d mid new : List A) (at : ℕ) (x y z : List A) (k m : ℕ) → mid ≡ paste d at x k → new ≡ paste mid (at + k) y m → k ≡ length x → m ≡ length y
-      → at ≤ length d → z ≡ x ++ y → new ≡ paste d at z (k + m)
-  pasted_both d mid new at x y z k m e f hk hm h is =
-      f ∙ ap (λ l. paste l (at + k) y m) e ∙ paste-paste d at x y k m hk hm h ∙ ap (λ l. paste d at l (k + m)) (sym is)
+  -- all elements of s are written
+  pub front_all : (d new s : List A) (i n : ℕ) → new ≡ paste d 0 s i → i ≡ n → n ≡ length s → new ≡ s ++ drop n d
+  front_all d new s i n e all whole =
+      let at : 0 + n ≡ n = omega arith in
+      e ∙ ap (paste d 0 s) all ∙ paste_all d 0 s n whole ∙ ap (λ k. s ++ drop k d) at
 
-  -- nothing, and one more copy of y, and all copies of y are written
-  pub blank_none : (d : List A) (from : ℕ) (y : A) → d ≡ paste d from (replicate (from - from) y) (from - from)
-  blank_none d from y =
-      let z : 0 ≡ from - from = omega arith in
-      paste_none d from (replicate 0 y) ∙ ap (λ n. paste d from (replicate n y) n) z
+  -- one more copy of y is written
+  pub fill_put : (d new : List A) (i : ℕ) (y : A) → new ≡ paste d 0 (replicate i y) i → i < length d → set new i y ≡ paste d 0 (replicate (i + 1) y) (i + 1)
+  fill_put d new i y e h =
+      let at : i ≡ 0 + i = omega arith in
+      ap (λ l. set l i y) e ∙ ap (λ k. set (paste d 0 (replicate i y) i) k y) at ∙ fill_from_more d 0 i y (omega arith)
 
-  pub blank_put : (d new : List A) (from i : ℕ) (y : A) → new ≡ paste d from (replicate (i - from) y) (i - from) → from ≤ i → i < length d
-      → set new i y ≡ paste d from (replicate (i + 1 - from) y) (i + 1 - from)
-  blank_put d new from i y e h l =
-      let at : i ≡ from + (i - from) = omega arith in
-      let next : i - from + 1 ≡ i + 1 - from = omega arith in
-      ap (λ r. set r i y) e
-      ∙ ap (λ k. set (paste d from (replicate (i - from) y) (i - from)) k y) at
-      ∙ fill_from_more d from (i - from) y (omega arith)
-      ∙ ap (λ n. paste d from (replicate n y) n) next
+  -- the list y is written behind x, which was written first
+  pub front_both : (d mid x y rest : List A) (k m n : ℕ) → k ≡ length x → mid ≡ x ++ drop k d → n ≡ length mid - k
+      → rest ≡ y ++ drop m (take n (drop k mid)) → put_mid k n mid rest ≡ (x ++ y) ++ drop (k + m) d
+  front_both d mid x y rest k m n hk e hn f =
+      let long : length (drop k mid) ≤ n = omega (arith, length-drop k mid) in
+      let front : take k mid ≡ x = ap (take k) e ∙ take_at x (drop k d) k (omega arith) in
+      let back : drop k mid ≡ drop k d = ap (drop k) e ∙ drop_at x (drop k d) k (omega arith) in
+      let none : drop n (drop k mid) ≡ [] = drop_all n (drop k mid) long in
+      let past : drop m (take n (drop k mid)) ≡ drop (k + m) d = ap (drop m) (take_all n (drop k mid) long ∙ back) ∙ drop-drop m k d in
+      (λ i. front i ++ (f i ++ none i)) ∙ ap (λ l. x ++ l) (append-nil _) ∙ ap (λ l. x ++ (y ++ l)) past ∙ sym (append_assoc x y (drop (k + m) d))
 
-  pub blank_all : (d new : List A) (from i upto : ℕ) (y : A) → new ≡ paste d from (replicate (i - from) y) (i - from) → i ≡ upto → from ≤ upto
-      → new ≡ take from d ++ replicate (upto - from) y ++ drop upto d
-  blank_all d new from i upto y e h l =
-      let n : ℕ = upto - from in
-      let k : i - from ≡ n = omega arith in
-      let end : from + n ≡ upto = omega arith in
-      e
-      ∙ ap (λ z. paste d from (replicate z y) z) k
-      ∙ ap (λ r. take from d ++ r ++ drop (from + n) d) (take_all n (replicate n y) (omega (arith, length-replicate n y)))
-      ∙ ap (λ z. take from d ++ replicate n y ++ drop z d) end
-
-  -- a copy at the front, and a list that is written right behind it
-  pub laid : (old mid new s x : List A) (k n : ℕ) → mid ≡ s ++ drop (length s) old → new ≡ paste mid (length s) x k → k ≡ length x → n ≡ length s + k
-      → (take n new ≡ s ++ x) × (drop n new ≡ drop n old)
-  laid old mid new s x k n e f hk hn =
-      let front : take (length s) mid ≡ s = ap (take (length s)) e ∙ take_at s (drop (length s) old) (length s) refl in
-      let back : drop (length s) mid ≡ drop (length s) old = ap (drop (length s)) e ∙ drop_at s (drop (length s) old) (length s) refl in
-      let past : drop (length s + k) mid ≡ drop n old = sym (drop-drop k (length s) mid) ∙ ap (drop k) back ∙ drop-drop k (length s) old ∙ ap (λ z. drop z old) (sym hn) in
-      let whole : new ≡ s ++ x ++ drop n old =
-      f ∙ paste_all mid (length s) x k hk ∙ ap (λ l. l ++ (x ++ drop (length s + k) mid)) front ∙ ap (λ l. s ++ (x ++ l)) past ∙ sym (append_assoc s x (drop n old)) in
-      let long : length (s ++ x) ≡ n = omega (arith, length-append s x) in
-      (ap (take n) whole ∙ take_at (s ++ x) (drop n old) n long, ap (drop n) whole ∙ drop_at (s ++ x) (drop n old) n long)
-
--- what is made of an element that was read
-pub mapped_read : {A B : Type 0} (f : A → B) (xs : List A) (i : ℕ) (x : A) (d : B) → i < length xs → x ≡ get_or xs i x → f x ≡ get_or (map f xs) i d
-mapped_read f xs i x d h is = ap f is ∙ sym (get_or-map f xs i x d h)
+  -- what stands in the first n elements, and behind them
+  pub laid : (old new x : List A) (n : ℕ) → new ≡ x ++ drop n old → length x ≡ n → n ≤ length old
+      → (take n new ≡ x) × (drop n new ≡ drop n old) × (length new ≡ length old)
+  laid old new x n e long room = (
+    ap (take n) e ∙ take_at x (drop n old) n long,
+    ap (drop n) e ∙ drop_at x (drop n old) n long,
+    omega (arith, ap length e, length-append x (drop n old), length-drop n old),
+  )

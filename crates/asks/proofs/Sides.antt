@@ -1,7 +1,6 @@
 -- The records of one sheet, and behind them those of another with their numbers moved on, are the two side by side.
-use Rattle.std.proofs.Common.{◌≡◌, ℕ, ◌+◌, ◌<◌, List, ◌++◌, map, length, get_or, drop, ap, ◌∙◌, arith, length-append}
+use Rattle.std.proofs.Common.{◌≡◌, ℕ, ◌+◌, ◌<◌, ◌≤◌, List, ◌++◌, map, length, get_or, drop, ap, ◌∙◌, arith, length-append}
 use lib.ListN.{length-map}
-use lib.Seq.{paste}
 use Rattle.std.proofs.lemmas.List.{map-append, get_or_append_left, get_or-append-add}
 use Rattle.records.specs.declared.PlaceRecord.{PlaceRecord}
 use Rattle.records.specs.declared.SlotRecord.{SlotRecord}
@@ -51,17 +50,14 @@ module _ {K : Type 0} (s t w : Sheet K) where
             ap (λ l. (get_or l (width s + i) blank_slot).target) f ∙ ap (λ r. r.target) (get_or-append-add s.slots ss i blank_slot) ∙ target_moved (size s) t.slots i h;
       }
 
--- a copy of s at the front of the tables, and the records of t, moved on, written right behind it
-pub laid_beside : {F : Type 0} (s t old mid new : Sheet F) (k l n m : ℕ) → mid.places ≡ s.places ++ drop (size s) old.places
-    → mid.slots ≡ s.slots ++ drop (width s) old.slots
-    → new.places ≡ paste mid.places (size s) (map (moved_place (width s)) t.places) k
-    → new.slots ≡ paste mid.slots (width s) (map (moved_slot (size s)) t.slots) l
-    → k ≡ size t → l ≡ width t → n ≡ size s + k → m ≡ width s + l → length new.places ≡ length old.places → length new.slots ≡ length old.slots
-    → Laid s t n m old new
-laid_beside s t old mid new k l n m mp ms np ns hk hl hn hm lp ls =
+-- tables that begin with the records of s, and with those of t, moved on, right behind them
+pub laid_beside : {F : Type 0} (s t old new : Sheet F) (n m : ℕ)
+    → new.places ≡ (s.places ++ map (moved_place (width s)) t.places) ++ drop n old.places
+    → new.slots ≡ (s.slots ++ map (moved_slot (size s)) t.slots) ++ drop m old.slots
+    → n ≡ size s + size t → m ≡ width s + width t → n ≤ length old.places → m ≤ length old.slots → Laid s t n m old new
+laid_beside s t old new n m np ns hn hm rp rs =
     let ps = map (moved_place (width s)) t.places in
     let ss = map (moved_slot (size s)) t.slots in
-    let p =
-    laid old.places mid.places new.places s.places ps k n mp np (omega (arith, length-map t.places (moved_place (width s)))) hn in
-    let q = laid old.slots mid.slots new.slots s.slots ss l m ms ns (omega (arith, length-map t.slots (moved_slot (size s)))) hm in
-    record { beside = beside_made s t _ p.0 q.0; places_past = p.1; slots_past = q.1; places_length = lp; slots_length = ls }
+    let p = laid old.places new.places (s.places ++ ps) n np (omega (arith, length-append s.places ps, length-map t.places (moved_place (width s)))) rp in
+    let q = laid old.slots new.slots (s.slots ++ ss) m ns (omega (arith, length-append s.slots ss, length-map t.slots (moved_slot (size s)))) rs in
+    record { beside = beside_made s t _ p.0 q.0; places_past = p.1; slots_past = q.1; places_length = p.2; slots_length = q.2 }

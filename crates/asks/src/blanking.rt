@@ -6,7 +6,8 @@ pub fn blank_from<T: Copy>(records: &mut [T], from: usize, upto: usize, blank: T
     requires { upto ≤ length records.old }
     ensures { records.new ≡ take from records.old ++ replicate (upto - from) blank ++ drop (max from upto) records.old }
 {
-    for i in from..upto {
-        records[i] = blank;
+    let from = from.min(upto);
+    for record in &mut records[from..upto] {
+        *record = blank;
     }
 }

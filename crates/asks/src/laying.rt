@@ -1,13 +1,12 @@
 // Laying the standing sheet and an ask side by side in the work tables: the standing sheet first, then the chain of the ask's
 // path, then the asked sheet with its numbers moved on.
-ghost use Rattle.std.specs.Prelude.{◌≡◌, ℕ, ◌+◌, ◌<◌, ◌≤◌, ◌++◌, map, length, drop};
-ghost use Rattle.std.proofs.Math.Seq.{paste};
-ghost use Rattle.records.specs.Tables.{first_at, target_at};
+ghost use Rattle.std.specs.Prelude.{◌≡◌, ℕ, ◌+◌, ◌<◌, ◌≤◌, ◌++◌, map, length, drop, slice_index};
 ghost use Rattle.records.specs.Sheets.{Formed};
 ghost use Rattle.asks.specs.Asks.{moved_place, moved_slot, chained};
 ghost use Rattle.asks.specs.Laying.{tables, chain, AddLaid};
 
-use records::{PlaceRecord, SlotRecord};
+use crate::moving::Moved;
+use records::{Counts, PlaceRecord, SlotRecord, Tables};
 
 // Copies a table to the front of another.
 fn copy_front<T: Copy>(from: &[T], to: &mut [T])
@@ -17,118 +16,90 @@ fn copy_front<T: Copy>(from: &[T], to: &mut [T])
     to[..from.len()].copy_from_slice(from);
 }
 
-// Draws the chain of a path behind `place_from` places and `slot_from` slots.
+// Copies a table to the front of another, each record as it is behind `by` more.
+fn copy_moved<T: Moved>(from: &[T], to: &mut [T], by: usize)
+    requires room { length from.now ≤ length to.old }
+    requires fits { (k : ℕ) → k < length from.now → by + slice_index (map T.Moved.number from.now) k < 65536 }
+    ensures { to.new ≡ map (T.Moved.behind by) from.now ++ drop (length from.now) to.old }
+{
+    for (i, record) in from.iter().enumerate() {
+        to[i] = record.moved(by);
+    }
+}
+
+// Draws the chain of a path at the front of two tables, as it is behind so many places and slots.
 fn draw_chain<F: Copy>(
     path: &[u64],
     places: &mut [PlaceRecord<F>],
     slots: &mut [SlotRecord],
-    place_from: usize,
-    slot_from: usize,
+    behind: Counts,
     any: F,
 )
-    requires places { (place_from + length path.now ≤ length places.old) × (place_from + length path.now < 65536) }
-    requires slots { (slot_from + length path.now ≤ length slots.old) × (slot_from + length path.now < 65536) }
-    ensures places { places.new ≡ paste places.old place_from (map (moved_place slot_from) (chain any path.now).places) (length path.now) }
-    ensures slots { slots.new ≡ paste slots.old slot_from (map (moved_slot place_from) (chain any path.now).slots) (length path.now) }
+    requires places { (length path.now ≤ length places.old) × (behind.places + length path.now < 65536) }
+    requires slots { (length path.now ≤ length slots.old) × (behind.slots + length path.now < 65536) }
+    ensures places { places.new ≡ map (moved_place behind.slots) (chain any path.now).places ++ drop (length path.now) places.old }
+    ensures slots { slots.new ≡ map (moved_slot behind.places) (chain any path.now).slots ++ drop (length path.now) slots.old }
 {
-    for i in 0..path.len() {
-        places[place_from + i] = PlaceRecord {
+    for (i, name) in path.iter().enumerate() {
+        places[i] = PlaceRecord {
             kind: any,
-            before: (slot_from + i) as u16,
+            before: (behind.slots + i) as u16,
             count: 1,
         };
-        slots[slot_from + i] = SlotRecord {
-            name: path[i],
-            target: (place_from + i + 1) as u16,
+        slots[i] = SlotRecord {
+            name: *name,
+            target: (behind.places + i + 1) as u16,
         };
     }
 }
 
-// Copies places from the index `at` on, with `by` more slots before them.
-fn copy_places<F: Copy>(
-    from: &[PlaceRecord<F>],
-    places: &mut [PlaceRecord<F>],
-    at: usize,
-    by: usize,
-)
-    requires room { (at + length from.now ≤ length places.old) × (by < 65536) }
-    requires fits { (p : ℕ) → p < length from.now → by + first_at from.now p < 65536 }
-    ensures { places.new ≡ paste places.old at (map (moved_place by) from.now) (length from.now) }
-{
-    for i in 0..from.len() {
-        let place = from[i];
-        places[at + i] = PlaceRecord {
-            kind: place.kind,
-            before: (by + place.before as usize) as u16,
-            count: place.count,
-        };
-    }
-}
-
-// Copies slots from the index `at` on, with `by` more places before those that they lead to.
-fn copy_slots(from: &[SlotRecord], slots: &mut [SlotRecord], at: usize, by: usize)
-    requires room { (at + length from.now ≤ length slots.old) × (by < 65536) }
-    requires fits { (i : ℕ) → i < length from.now → by + target_at from.now i < 65536 }
-    ensures { slots.new ≡ paste slots.old at (map (moved_slot by) from.now) (length from.now) }
-{
-    for i in 0..from.len() {
-        let slot = from[i];
-        slots[at + i] = SlotRecord {
-            name: slot.name,
-            target: (by + slot.target as usize) as u16,
-        };
-    }
-}
-
-// Draws the add of a sheet at a path behind `place_from` places and `slot_from` slots.
+// Draws the add of a sheet at a path at the front of two tables, as it is behind so many places and slots.
 fn draw_add<F: Copy>(
     path: &[u64],
-    asked_places: &[PlaceRecord<F>],
-    asked_slots: &[SlotRecord],
+    asked: Tables<'_, F>,
     places: &mut [PlaceRecord<F>],
     slots: &mut [SlotRecord],
-    place_from: usize,
-    slot_from: usize,
+    behind: Counts,
     any: F,
 )
-    requires asked { Formed (tables asked_places.now asked_slots.now) }
-    requires places { (place_from + length path.now + length asked_places.now ≤ length places.old) × (place_from + length path.now + length asked_places.now < 65536) }
-    requires slots { (slot_from + length path.now + length asked_slots.now ≤ length slots.old) × (slot_from + length path.now + length asked_slots.now < 65536) }
-    ensures places { places.new ≡ paste places.old place_from (map (moved_place slot_from) (chained any path.now (tables asked_places.now asked_slots.now)).places) (length path.now + length asked_places.now) }
-    ensures slots { slots.new ≡ paste slots.old slot_from (map (moved_slot place_from) (chained any path.now (tables asked_places.now asked_slots.now)).slots) (length path.now + length asked_slots.now) }
+    requires asked { Formed (tables asked.places.now asked.slots.now) }
+    requires places { (length path.now + length asked.places.now ≤ length places.old) × (behind.places + length path.now + length asked.places.now < 65536) }
+    requires slots { (length path.now + length asked.slots.now ≤ length slots.old) × (behind.slots + length path.now + length asked.slots.now < 65536) }
+    ensures places { places.new ≡ map (moved_place behind.slots) (chained any path.now (tables asked.entry.places.now asked.entry.slots.now)).places ++ drop (length path.now + length asked.entry.places.now) places.old }
+    ensures slots { slots.new ≡ map (moved_slot behind.places) (chained any path.now (tables asked.entry.places.now asked.entry.slots.now)).slots ++ drop (length path.now + length asked.entry.slots.now) slots.old }
 {
     let names = path.len();
-    draw_chain(path, places, slots, place_from, slot_from, any);
-    copy_places(asked_places, places, place_from + names, slot_from + names);
-    copy_slots(asked_slots, slots, slot_from + names, place_from + names);
+    draw_chain(path, places, slots, behind, any);
+    copy_moved(asked.places, &mut places[names..], behind.slots + names);
+    copy_moved(asked.slots, &mut slots[names..], behind.places + names);
 }
 
 // Lays the standing sheet and the add of a sheet at a path side by side, from the first record of the work tables on.
 pub fn lay_beside<F: Copy>(
-    standing_places: &[PlaceRecord<F>],
-    standing_slots: &[SlotRecord],
+    standing: Tables<'_, F>,
     path: &[u64],
-    asked_places: &[PlaceRecord<F>],
-    asked_slots: &[SlotRecord],
+    asked: Tables<'_, F>,
     work_places: &mut [PlaceRecord<F>],
     work_slots: &mut [SlotRecord],
     any: F,
 )
-    requires asked { Formed (tables asked_places.now asked_slots.now) }
-    requires places { (length standing_places.now + length path.now + length asked_places.now ≤ length work_places.old) × (length standing_places.now + length path.now + length asked_places.now < 65536) }
-    requires slots { (length standing_slots.now + length path.now + length asked_slots.now ≤ length work_slots.old) × (length standing_slots.now + length path.now + length asked_slots.now < 65536) }
-    ensures { AddLaid any (tables standing_places.now standing_slots.now) path.now (tables asked_places.now asked_slots.now) (tables work_places.old work_slots.old) (tables work_places.new work_slots.new) }
+    requires asked { Formed (tables asked.places.now asked.slots.now) }
+    requires places { (length standing.places.now + length path.now + length asked.places.now ≤ length work_places.old) × (length standing.places.now + length path.now + length asked.places.now < 65536) }
+    requires slots { (length standing.slots.now + length path.now + length asked.slots.now ≤ length work_slots.old) × (length standing.slots.now + length path.now + length asked.slots.now < 65536) }
+    ensures { AddLaid any (tables standing.entry.places.now standing.entry.slots.now) path.now (tables asked.entry.places.now asked.entry.slots.now) (tables work_places.old work_slots.old) (tables work_places.new work_slots.new) }
 {
-    copy_front(standing_places, work_places);
-    copy_front(standing_slots, work_slots);
+    let behind = Counts {
+        places: standing.places.len(),
+        slots: standing.slots.len(),
+    };
+    copy_front(standing.places, work_places);
+    copy_front(standing.slots, work_slots);
     draw_add(
         path,
-        asked_places,
-        asked_slots,
-        work_places,
-        work_slots,
-        standing_places.len(),
-        standing_slots.len(),
+        asked,
+        &mut work_places[behind.places..],
+        &mut work_slots[behind.slots..],
+        behind,
         any,
     );
 }

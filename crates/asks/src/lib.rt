@@ -4,6 +4,9 @@
 // The sheet of an add, and its laws.
 mod add;
 
+// Records behind others.
+mod moving;
+
 // The standing sheet and an ask, side by side.
 mod laying;
 

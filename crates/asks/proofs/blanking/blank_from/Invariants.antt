@@ -1,6 +1,6 @@
-use Rattle.std.proofs.Common.{◌≡◌, ◌-◌, ◌<◌, replicate}
+use Rattle.std.proofs.Common.{◌≡◌, replicate}
 use lib.Seq.{paste}
 use Rattle.asks.proofs.blanking.blank_from.Given as goal
 
-abbrev pub invariant-loop-i : goal.invariant-loop-i
-invariant-loop-i g l = (l.records ≡ paste l.initial.records l.from (replicate (l.i - l.from) l.blank) (l.i - l.from)) × (l.upto < l.from → l.i ≡ l.from)
+abbrev pub invariant-loop-record : goal.invariant-loop-record
+invariant-loop-record g l = l.record-items ≡ paste l.initial.record-items 0 (replicate l.record-index l.blank) l.record-index

@@ -6,5 +6,5 @@ use Rattle.asks.proofs.laying.draw_chain.Given as goal
 
 abbrev pub invariant-loop-i : goal.invariant-loop-i
 invariant-loop-i g l =
-    (l.places ≡ paste l.initial.places l.place_from (map (moved_place l.slot_from) (chain l.any l.path).places) l.i)
-    × (l.slots ≡ paste l.initial.slots l.slot_from (map (moved_slot l.place_from) (chain l.any l.path).slots) l.i)
+    (l.places ≡ paste l.initial.places 0 (map (moved_place l.behind.slots) (chain l.any l.path).places) l.i)
+    × (l.slots ≡ paste l.initial.slots 0 (map (moved_slot l.behind.places) (chain l.any l.path).slots) l.i)
