@@ -1,19 +1,29 @@
 -- What a reader of lines holds, what each call does, and what a whole run gives.
-use Rattle.std.specs.Prelude.{◌≡◌, ℕ, ◌+◌, min, Bool, true, false, cond, List, [], ◌∷◌, ◌++◌, map, length, take, drop}
+use Rattle.std.specs.Prelude.{◌≡◌, ℕ, ◌+◌, min, Bool, true, false, cond, List, [], ◌∷◌, ◌++◌, map, length, take, drop, Ok, Err, Result}
+use Rattle.std.specs.Borrow.{Bor}
 use Rattle.std.specs.List.{flat_map}
 use Rattle.lines.specs.declared.reader.Lines.{Lines}
 use Rattle.lines.specs.declared.reader.Fed.{Fed}
-use Rattle.lines.specs.declared.reader.Line.{Line}
-use Rattle.lines.specs.declared.reader.Line.TheVariants.{Whole, TooLong}
+use Rattle.lines.specs.declared.reader.LongLine.{LongLine}
 use Rattle.lines.specs.Lines.{Given, whole, too_long, given_for, lines, front, has_newline, CutInto}
 
 -- the most bytes that a line may have
 abbrev pub limit : Lines → ℕ
 limit s = min 60000 (length s.buffer.now)
 
+-- the line that the first bytes of a buffer are, unless it is too long
+abbrev pub held : Result ℕ LongLine → List ℕ → Given
+held (Ok len) bytes = whole (take len bytes)
+held (Err long) bytes = too_long
+
+-- the bytes past that line, and all of them where it is too long
+abbrev pub past_line : Result ℕ LongLine → List ℕ → List ℕ
+past_line (Ok len) bytes = drop len bytes
+past_line (Err long) bytes = bytes
+
 -- the line read so far, which is the one that has ended until the next piece comes
 abbrev pub line_so_far : Lines → Given
-line_so_far s = cond s.too_long too_long (whole (take s.len s.buffer.now))
+line_so_far s = held s.len s.buffer.now
 
 -- what is held of the line that has not ended
 abbrev pub pending : Lines → Given
@@ -25,9 +35,9 @@ extended limit (whole bytes) more = given_for limit (bytes ++ more)
 extended limit too_long more = too_long
 
 -- what a line shows
-abbrev pub shown : Line → Given
-shown (Whole bytes) = whole bytes.now
-shown TooLong = too_long
+abbrev pub shown : Result (Bor (List ℕ)) LongLine → Given
+shown (Ok bytes) = whole bytes.now
+shown (Err long) = too_long
 
 -- it has at least one byte
 abbrev pub some : Given → Bool
@@ -39,7 +49,7 @@ some too_long = true
 pub record SameBuffer (t s : Lines) : Type 0 where
   pub loan : t.buffer.ghost_name ≡ s.buffer.ghost_name
   pub room : length t.buffer.now ≡ length s.buffer.now
-  pub untouched : drop t.len t.buffer.now ≡ drop t.len s.buffer.now
+  pub untouched : past_line t.len t.buffer.now ≡ past_line t.len s.buffer.now
 
 -- a piece was fed, and the reader s became t: the piece was read up to and with its first newline, which ends the line, or
 -- whole where it has none, and the bytes before the newline were added to the line that had not ended

@@ -33,3 +33,6 @@ figure_byte f some few = grind (arith, nat_tests)
 
 pub name_byte : (f : ℕ) → 0 < f → f ≤ 37 → NameByte (byte f)
 name_byte f some few = grind (arith, nat_tests)
+
+pub byte_ascii : (f : ℕ) → f ≤ 37 → byte f < 128
+byte_ascii f few = grind (arith, nat_tests)

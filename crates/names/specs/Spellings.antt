@@ -1,5 +1,5 @@
 -- From numbers back to names.
-use Rattle.std.specs.Prelude.{◌≡◌, ℕ, zero, suc, ◌+◌, ◌/◌, ◌%◌, ◌^◌, cond, List, [], ◌∷◌, take, Some, None, Option, ◌==◌, nat_le}
+use Rattle.std.specs.Prelude.{◌≡◌, ℕ, zero, suc, ◌+◌, ◌/◌, ◌%◌, ◌^◌, cond, List, [], ◌∷◌, Some, None, Option, ◌==◌, nat_le}
 use Rattle.names.specs.declared.spelling.Spelling.{Spelling}
 use Rattle.names.specs.Names.{Name, number, IsName}
 
@@ -18,7 +18,7 @@ spelt n = spelt_from 12 n
 
 -- the bytes that a spelling shows
 abbrev pub shown : Spelling → List ℕ
-shown s = take s.len s.bytes
+shown s = s.name.bytes
 
 -- what is answered for the spelling of n: a name that has this number, and none where no name has it
 abbrev pub Spells : ℕ → Option Spelling → Type 0

@@ -8,10 +8,7 @@ use crate::ROOM;
 fn begins_name(bytes: &[u8]) -> bool
     ensures { Decides result ((0 < length bytes.now) × (length bytes.now ≤ 12) × Letter (slice_index bytes.now 0)) }
 {
-    match bytes {
-        [b'a'..=b'z', ..] => bytes.len() <= 12,
-        _ => false,
-    }
+    bytes.len() <= 12 && matches!(bytes, [b'a'..=b'z', ..])
 }
 
 // The figure of a byte of a name, and none where no name has the byte.

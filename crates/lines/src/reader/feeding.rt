@@ -1,22 +1,9 @@
 // Feeding pieces of input, and the lines that they give.
 ghost use Rattle.std.specs.Prelude.{◌≡◌, ◌<◌, ◌≤◌, [], length};
-ghost use Rattle.lines.specs.Lines.{whole, front, LineLaws};
+ghost use Rattle.lines.specs.Lines.{whole, LineLaws};
 ghost use Rattle.lines.specs.Reading.{limit, line_so_far, pending, extended, shown, some, Feeds, SameBuffer, SoFar, Lasting, Complete, GivesLines};
 
-use super::{Fed, Line, Lines, MOST_BYTES};
-
-// The place of the first newline, or the piece's length where there is none.
-fn newline_at(piece: &[u8]) -> usize
-    ensures place { result ≡ length (front piece.now) }
-    ensures within { result ≤ length piece.now }
-{
-    for (i, b) in piece.iter().enumerate() {
-        if *b == b'\n' {
-            return i;
-        }
-    }
-    piece.len()
-}
+use super::{Fed, Lines, LongLine, MOST_BYTES};
 
 impl<'a> Lines<'a> {
     // A reader at the start of an input. A line that the buffer cannot hold is too long.
@@ -29,8 +16,7 @@ impl<'a> Lines<'a> {
     {
         Lines {
             buffer,
-            len: 0,
-            too_long: false,
+            len: Ok(0),
             ended: false,
         }
     }
@@ -43,12 +29,13 @@ impl<'a> Lines<'a> {
         ensures onward { 0 < length piece.now → 0 < result.used }
         ensures lasting { Lasting self.old piece.now result self.new }
     {
-        let end = newline_at(piece);
+        let newline = piece.iter().position(|byte| *byte == b'\n');
+        let end = newline.unwrap_or(piece.len());
         self.begin();
-        self.append(&piece[0..end]);
-        self.ended = end < piece.len();
+        self.append(&piece[..end]);
+        self.ended = newline.is_some();
         Fed {
-            used: piece.len().min(end + 1),
+            used: newline.map_or(piece.len(), |at| at + 1),
             ended: self.ended,
         }
     }
@@ -60,8 +47,7 @@ impl<'a> Lines<'a> {
         ensures kept { SameBuffer self.new self.old }
     {
         if self.ended {
-            self.len = 0;
-            self.too_long = false;
+            self.len = Ok(0);
         }
     }
 
@@ -70,26 +56,24 @@ impl<'a> Lines<'a> {
         ensures line { line_so_far self.new ≡ extended (limit self.old) (line_so_far self.old) bytes.now }
         ensures kept { SameBuffer self.new self.old }
     {
+        let Ok(len) = self.len else {
+            return;
+        };
         let limit = MOST_BYTES.min(self.buffer.len());
-        if self.too_long || limit - self.len < bytes.len() {
-            self.too_long = true;
+        if limit - len < bytes.len() {
+            self.len = Err(LongLine);
             return;
         }
-        let end = self.len + bytes.len();
-        let buffer = std::mem::take(&mut self.buffer);
-        buffer[self.len..end].copy_from_slice(bytes);
-        self.buffer = buffer;
-        self.len = end;
+        let end = len + bytes.len();
+        self.buffer[len..end].copy_from_slice(bytes);
+        self.len = Ok(end);
     }
 
     // The line read so far; once it has ended, that line, until the next piece comes.
-    pub fn line(&self) -> Line<'_>
+    pub fn line(&self) -> Result<&[u8], LongLine>
         ensures { shown result ≡ line_so_far self.now }
     {
-        if self.too_long {
-            return Line::TooLong;
-        }
-        Line::Whole(&self.buffer[0..self.len])
+        Ok(&self.buffer[..self.len?])
     }
 
     // At the end of the input: whether a last line is pending, which no newline has ended.
@@ -97,6 +81,6 @@ impl<'a> Lines<'a> {
         ensures answer { result ≡ some (pending self.now) }
         ensures complete { Complete self.now result }
     {
-        !self.ended && (self.too_long || self.len > 0)
+        !self.ended && self.len != Ok(0)
     }
 }

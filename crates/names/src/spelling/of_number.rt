@@ -5,6 +5,7 @@ ghost use Rattle.names.specs.Spellings.{byte, shown, Spells, SpeltAs, ThereAndBa
 
 use crate::ROOM;
 use crate::spelling::Spelling;
+use arrayvec::ArrayString;
 
 // The number of `a`, the least of all names.
 const LEAST: u64 = 238_572_050_223_552_512;
@@ -17,18 +18,18 @@ impl Spelling {
     pub fn as_bytes(&self) -> &[u8]
         ensures { result.now ≡ shown self.now }
     {
-        &self.bytes[..self.len]
+        self.name.as_str().as_bytes()
     }
 }
 
-// The byte of a figure, and none where no byte of a name has the figure.
-fn byte_of(figure: u64) -> Option<u8>
-    ensures { MatchOption result ((figure ≡ 0) ⊎ (37 < figure)) (λ b. (0 < figure) × (figure ≤ 37) × (b ≡ byte figure)) }
+// The character of a figure, and none where no name has the figure.
+fn char_of(figure: u64) -> Option<char>
+    ensures { MatchOption result ((figure ≡ 0) ⊎ (37 < figure)) (λ c. (0 < figure) × (figure ≤ 37) × (c ≡ byte figure)) }
 {
     match figure {
-        1..=26 => Some(b'a' + (figure - 1) as u8),
-        27..=36 => Some(b'0' + (figure - 27) as u8),
-        37 => Some(b'_'),
+        1..=26 => Some(char::from(b'a' + (figure - 1) as u8)),
+        27..=36 => Some(char::from(b'0' + (figure - 27) as u8)),
+        37 => Some('_'),
         _ => None,
     }
 }
@@ -42,17 +43,15 @@ pub fn spelling(number: u64) -> Option<Spelling>
     if number < LEAST || number > GREATEST {
         return None;
     }
-    let mut bytes = [0; 12];
-    let mut len = 0;
+    let mut name = ArrayString::new();
     let mut weight = ROOM;
     let mut rest = number;
     while rest > 0 {
         weight /= 38;
-        bytes[len] = byte_of(rest / weight)?;
-        len += 1;
+        name.push(char_of(rest / weight)?);
         rest %= weight;
     }
-    Some(Spelling { bytes, len })
+    Some(Spelling { name })
 }
 
 // Whether some name has the number.

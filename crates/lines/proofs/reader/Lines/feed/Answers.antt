@@ -1,6 +1,9 @@
-use Rattle.std.proofs.Common.{ℕ, ◌+◌, min, ltb, length, take, drop, ap, ◌∙◌, arith}
-use Rattle.lines.specs.Reading.{Feeds}
-use Rattle.lines.proofs.Held.{front_taken, front_ends, front_used, line_fed}
+use Rattle.std.proofs.Common.{◌≡◌, ◌+◌, ◌∙◌, eqb, position, length, take, ap, rules, tests}
+use Rattle.std.specs.Option.{option_map_or}
+use Rattle.std.proofs.lemmas.Iterator.{YieldsList-from_slice}
+use Rattle.std.proofs.lemmas.Iterator.Search.{position_from_yields_List}
+use Rattle.lines.specs.Reading.{past_line, Feeds}
+use Rattle.lines.proofs.Held.{newline_ended, newline_used, newline_front, line_fed}
 use Rattle.lines.proofs.Runs.{so_far_fed}
 use Rattle.lines.proofs.reader.Lines.feed.Goals as goal
 
@@ -10,20 +13,21 @@ returns c =
     let piece = c.args.piece.now in
     let begins = c.begin.ensures in
     let appends = c.append.ensures in
-    let place = c.newline_at-end.ensures.place in
-    let ends = ap (λ (n : ℕ). ltb n (length piece)) place ∙ front_ends piece in
-    let before = ap (λ (n : ℕ). take n piece) (omega arith) ∙ front_taken piece in
+    let place : c.position-newline.result ≡ position (λ b. eqb b 10) piece =
+    position_from_yields_List (λ b. eqb b 10) _ _ c.position-newline.result c.position-newline.ensures.ran (YieldsList-from_slice piece cc) (λ x b q k. search (rules, tests)) in
+    let mapped : c.map_or.result ≡ option_map_or (λ n. n + 1) c.position-newline.result (length piece) = search rules in
+    let ends = c.is_some-self.ensures ∙ newline_ended piece _ place in
     let feeds : Feeds s piece _ _ =
     record {
       ended = ends;
-      used = c.min.ensures ∙ ap (λ (n : ℕ). min (length piece) (n + 1)) place ∙ front_used piece;
-      line = line_fed s _ c.append.new.self piece _ begins.kept begins.line appends.line before;
+      used = mapped ∙ newline_used piece _ place;
+      line = line_fed s _ c.append.new.self piece _ begins.kept begins.line appends.line (ap (λ n. take n piece) c.unwrap_or-end.ensures ∙ newline_front piece _ place);
       over = ends;
       kept =
           record {
             loan = appends.kept.loan ∙ begins.kept.loan;
             room = appends.kept.room ∙ begins.kept.room;
-            untouched = appends.kept.untouched ∙ ap (drop c.append.new.self.len) begins.bytes;
+            untouched = appends.kept.untouched ∙ ap (past_line c.append.new.self.len) begins.bytes;
           };
     } in
-    record { answer = feeds; within = omega arith; onward = λ some. omega arith; lasting = so_far_fed _ _ _ _ feeds }
+    record { answer = feeds; within = search rules; onward = search rules; lasting = so_far_fed _ _ _ _ feeds }
