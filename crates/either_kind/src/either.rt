@@ -13,6 +13,7 @@ pub enum Either<P, Q> {
 // part's greatest kind.
 #[derive(Clone, Copy, PartialEq, Eq, Debug)]
 pub struct EitherForm<F, G> {
+    // A number and no enum: callers keep this form in their own tables, and any number may stand there.
     pub tag: u8,
     pub first: F,
     pub second: G,

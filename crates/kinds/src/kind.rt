@@ -49,9 +49,6 @@ pub trait Kind: Copy {
     fn load(stored: Self::Form) -> Self
         ensures { result ≡ loaded laws stored }
     {
-        match Self::read(stored) {
-            Some(kind) => kind,
-            None => Self::greatest(),
-        }
+        Self::read(stored).unwrap_or(Self::greatest())
     }
 }

@@ -12,10 +12,7 @@ use kinds::kind::Kind;
 fn is_unused<K: Kind>(stored: K::Form) -> bool
     ensures { result ≡ unused K.Kind.laws stored }
 {
-    match K::read(stored) {
-        Some(kind) => K::greatest().at_or_below(kind),
-        None => false,
-    }
+    K::read(stored).is_some_and(|kind| K::greatest().at_or_below(kind))
 }
 
 impl<P: Kind, Q: Kind> Kind for Either<P, Q> {
@@ -40,38 +37,20 @@ impl<P: Kind, Q: Kind> Kind for Either<P, Q> {
     }
 
     fn at_or_below(self, other: Either<P, Q>) -> bool {
-        match other {
-            Either::Any => true,
-            Either::First(b) => match self {
-                Either::First(a) => a.at_or_below(b),
-                Either::Any | Either::Second(_) => false,
-            },
-            Either::Second(b) => match self {
-                Either::Second(a) => a.at_or_below(b),
-                Either::Any | Either::First(_) => false,
-            },
+        match (self, other) {
+            (_, Either::Any) => true,
+            (Either::First(a), Either::First(b)) => a.at_or_below(b),
+            (Either::Second(a), Either::Second(b)) => a.at_or_below(b),
+            _ => false,
         }
     }
 
     fn meet(self, other: Either<P, Q>) -> Option<Either<P, Q>> {
-        match self {
-            Either::Any => Some(other),
-            Either::First(a) => match other {
-                Either::Any => Some(Either::First(a)),
-                Either::First(b) => match a.meet(b) {
-                    Some(m) => Some(Either::First(m)),
-                    None => None,
-                },
-                Either::Second(_) => None,
-            },
-            Either::Second(a) => match other {
-                Either::Any => Some(Either::Second(a)),
-                Either::First(_) => None,
-                Either::Second(b) => match a.meet(b) {
-                    Some(m) => Some(Either::Second(m)),
-                    None => None,
-                },
-            },
+        match (self, other) {
+            (Either::Any, kind) | (kind, Either::Any) => Some(kind),
+            (Either::First(a), Either::First(b)) => Some(Either::First(a.meet(b)?)),
+            (Either::Second(a), Either::Second(b)) => Some(Either::Second(a.meet(b)?)),
+            (Either::First(_), Either::Second(_)) | (Either::Second(_), Either::First(_)) => None,
         }
     }
 
@@ -97,33 +76,9 @@ impl<P: Kind, Q: Kind> Kind for Either<P, Q> {
 
     fn read(stored: EitherForm<P::Form, Q::Form>) -> Option<Either<P, Q>> {
         match stored.tag {
-            0 => {
-                if is_unused::<P>(stored.first) && is_unused::<Q>(stored.second) {
-                    Some(Either::Any)
-                } else {
-                    None
-                }
-            }
-            1 => {
-                if is_unused::<Q>(stored.second) {
-                    match P::read(stored.first) {
-                        Some(a) => Some(Either::First(a)),
-                        None => None,
-                    }
-                } else {
-                    None
-                }
-            }
-            2 => {
-                if is_unused::<P>(stored.first) {
-                    match Q::read(stored.second) {
-                        Some(b) => Some(Either::Second(b)),
-                        None => None,
-                    }
-                } else {
-                    None
-                }
-            }
+            0 if is_unused::<P>(stored.first) && is_unused::<Q>(stored.second) => Some(Either::Any),
+            1 if is_unused::<Q>(stored.second) => Some(Either::First(P::read(stored.first)?)),
+            2 if is_unused::<P>(stored.first) => Some(Either::Second(Q::read(stored.second)?)),
             _ => None,
         }
     }

@@ -1,10 +1,11 @@
-// The kinds of the catalogue: their codes and words, the table of their meets, and the catalogue as a type of kind.
+// The kinds of the catalogue: their codes and words, and the catalogue as a type of kind.
 ghost use Rattle.std.specs.Prelude.{◌≡◌};
-ghost use Rattle.kinds.specs.Catalogue.{Within, listed, index, code, word, kind_at, shared, MeetRule, MeetTable};
+ghost use Rattle.kinds.specs.Catalogue.{Within, listed, index, code, word, kind_at, shared, MeetRule};
 ghost use Rattle.kinds.specs.CatalogueLaws.{catalogue_laws, catalogue_meets};
 ghost use Rattle.kinds.specs.declared.catalogue.Catalogue.TheVariants.{Thing};
 
 use crate::catalogue::Catalogue;
+use crate::catalogue::meets::{MEETS, look_up};
 use crate::kind::Kind;
 
 // The kinds in the catalogue's order; the stored form of each is its number in this list.
@@ -26,53 +27,6 @@ const KINDS: [Catalogue; 16] = [
     Catalogue::Headstock,
     Catalogue::Tune,
 ];
-
-// No kind's stored form: the answer where two kinds have no meet.
-const N: u8 = 16;
-
-// The stored form of the meet of each two kinds: a row for the first, a column for the second.
-const MEETS: [[u8; 16]; 16] = [
-    // Thing
-    [0, 1, 2, 3, 4, 5, 6, 7, 8, 9, 10, 11, 12, 13, 14, 15],
-    // Ware
-    [1, 1, 2, 3, 4, 5, 6, 7, 8, 9, 10, 11, 12, 13, 14, N],
-    // Electrical
-    [2, 2, 2, 3, 4, 6, 6, 7, 8, 9, 10, 11, 12, N, N, N],
-    // Mover
-    [3, 3, 3, 3, 4, 6, 6, 7, 8, 9, 10, 11, N, N, N, N],
-    // Striking
-    [4, 4, 4, 4, 4, 7, 7, 7, N, 9, 10, 11, N, N, N, N],
-    // Outdoor
-    [5, 5, 6, 6, 7, 5, 6, 7, 8, 9, 10, N, N, 13, 14, N],
-    // OutdoorMover
-    [6, 6, 6, 6, 7, 6, 6, 7, 8, 9, 10, N, N, N, N, N],
-    // OutdoorStriker
-    [7, 7, 7, 7, 7, 7, 7, 7, N, 9, 10, N, N, N, N, N],
-    // SwingMotor
-    [8, 8, 8, 8, N, 8, 8, N, 8, N, N, N, N, N, N, N],
-    // InsideStriker
-    [9, 9, 9, 9, 9, 9, 9, 9, N, 9, N, N, N, N, N, N],
-    // OutsideStriker
-    [10, 10, 10, 10, 10, 10, 10, 10, N, N, 10, N, N, N, N, N],
-    // ChimeHammer
-    [11, 11, 11, 11, 11, N, N, N, N, N, N, 11, N, N, N, N],
-    // Controller
-    [12, 12, 12, N, N, N, N, N, N, N, N, N, 12, N, N, N],
-    // Bell
-    [13, 13, N, N, N, 13, N, N, N, N, N, N, N, 13, N, N],
-    // Headstock
-    [14, 14, N, N, N, 14, N, N, N, N, N, N, N, N, 14, N],
-    // Tune
-    [15, N, N, N, N, N, N, N, N, N, N, N, N, N, N, 15],
-];
-
-// What a table of meets has for two kinds.
-fn look_up(table: &[[u8; 16]; 16], first: Catalogue, second: Catalogue) -> Option<Catalogue>
-    requires { MeetTable table.now }
-    ensures { result ≡ shared first second }
-{
-    <Catalogue as Kind>::read(table[first.index()][second.index()])
-}
 
 impl Catalogue {
     // All kinds, in the catalogue's order.
@@ -155,7 +109,7 @@ impl Kind for Catalogue {
     ghost meets = { catalogue_meets };
 
     fn greatest() -> Catalogue {
-        KINDS[0]
+        Self::Thing
     }
 
     fn at_or_below(self, other: Catalogue) -> bool {
@@ -174,10 +128,6 @@ impl Kind for Catalogue {
     }
 
     fn read(stored: u8) -> Option<Catalogue> {
-        if stored < 16 {
-            Some(KINDS[stored as usize])
-        } else {
-            None
-        }
+        KINDS.get(usize::from(stored)).copied()
     }
 }

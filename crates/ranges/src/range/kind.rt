@@ -1,7 +1,5 @@
 // Ranges as a type of kind: the order is inclusion, and the meet is the common part.
 ghost use Rattle.std.specs.Prelude.{◌≡◌};
-ghost use Rattle.std.specs.Int.{int_max, int_min};
-ghost use Rattle.std.specs.Result.{result_ok};
 ghost use Rattle.ranges.specs.Ranges.{Inside, widest, made, overlap, form_of, range_of};
 ghost use Rattle.ranges.specs.RangeLaws.{range_laws, range_meets};
 
@@ -33,25 +31,26 @@ impl Range {
     }
 }
 
-// The greater of the low ends, where the common part of two ranges begins.
-fn common_low(a: Range, b: Range) -> i32
-    ensures { result ≡ int_max a.low b.low }
-{
-    a.low.max(b.low)
+// Two numbers are made into a range where they are the ends of one, and are handed back where they are not.
+impl TryFrom<RangeForm> for Range {
+    type Error = RangeForm;
+
+    ghost try_from_gives = { λ form r. r ≡ made form.low form.high };
+
+    fn try_from(form: RangeForm) -> Result<Range, RangeForm> {
+        Range::new(form.low, form.high)
+    }
 }
 
-// The lesser of the high ends, where it ends.
-fn common_high(a: Range, b: Range) -> i32
-    ensures { result ≡ int_min a.high b.high }
-{
-    a.high.min(b.high)
-}
+impl From<Range> for RangeForm {
+    ghost from_gives = { λ range form. form ≡ form_of range };
 
-// The range from `low` to `high`, if there is one.
-fn range_if(low: i32, high: i32) -> Option<Range>
-    ensures { result ≡ result_ok (made low high) }
-{
-    Range::new(low, high).ok()
+    fn from(range: Range) -> RangeForm {
+        RangeForm {
+            low: range.low,
+            high: range.high,
+        }
+    }
 }
 
 impl Kind for Range {
@@ -83,17 +82,14 @@ impl Kind for Range {
     }
 
     fn meet(self, other: Range) -> Option<Range> {
-        range_if(common_low(self, other), common_high(self, other))
+        Range::new(self.low.max(other.low), self.high.min(other.high)).ok()
     }
 
     fn store(self) -> RangeForm {
-        RangeForm {
-            low: self.low,
-            high: self.high,
-        }
+        self.into()
     }
 
     fn read(stored: RangeForm) -> Option<Range> {
-        range_if(stored.low, stored.high)
+        Range::try_from(stored).ok()
     }
 }
