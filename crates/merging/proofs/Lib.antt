@@ -1,2 +1,3 @@
 pub mod Classing
+pub mod Outcomes
 pub mod Tables

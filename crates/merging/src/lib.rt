@@ -64,12 +64,14 @@ pub fn merge<K: Kind>(
     let m = standing.slots;
     let all_places = n + path.len() + asked.places.len();
     let all_slots = m + path.len() + asked.slots.len();
+    let stands = Tables {
+        places: &places[..n],
+        slots: &slots[..m],
+    };
     lay_beside(
-        &places[..n],
-        &slots[..m],
+        stands,
         path,
-        asked.places,
-        asked.slots,
+        asked,
         work_places,
         work_slots,
         K::greatest().store(),

@@ -46,8 +46,6 @@ pub(crate) fn unite<K: Kind>(
     join_roots(work_places, work_slots, guard.0, second);
     let mut ends = [0u16; LIMIT];
     flatten(guard.0, &mut ends);
-    if !meet_classes::<K>(work_places, &ends) {
-        return None;
-    }
+    meet_classes::<K>(work_places, &ends).ok()?;
     Some(number(work_places, work_slots, &ends, places, slots))
 }
