@@ -1,4 +1,6 @@
 pub mod Columns
+pub mod Counting
+pub mod Owned
 pub mod Fields
 pub mod Shape
 pub mod Unique

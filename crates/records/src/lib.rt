@@ -2,12 +2,18 @@
 // psi-term: a place is a node, and a slot is a feature, an edge with a name.
 #![tactic(auto)]
 
-ghost use Rattle.std.specs.Prelude.{◌≡◌, ◌+◌, min, ◌++◌, length, take, drop};
+ghost use Rattle.std.specs.Prelude.{◌≡◌, ◌+◌, min, ◌++◌, length, take, drop, Decides};
 ghost use Rattle.std.specs.List.{range_with_len};
 ghost use Rattle.records.specs.Tables.{blank_slot, count_at, first_at};
+ghost use Rattle.records.specs.Checks.{Aimed, Counted, Rising, RisingAt};
 ghost use Rattle.records.specs.Sheets.{blank_place};
 
 use kinds::kind::Kind;
+
+// The most places, and the most slots, of a sheet.
+pub const MOST_PLACES: usize = 1000;
+
+pub const MOST_SLOTS: usize = 4000;
 
 // A place: the stored form of its kind, the number of slots of all earlier places, and its own number of slots.
 #[derive(Clone, Copy, PartialEq, Eq, Debug)]
@@ -91,5 +97,43 @@ impl<'a, F: Copy> Tables<'a, F> {
         let from = first_slot(self.places, p).min(len);
         let upto = past_slot(self.places, p).min(len);
         &self.slots[from..upto]
+    }
+
+    // Whether the first number of each place is the sum of the earlier counts, and all counts come to the number of the slots.
+    pub fn is_counted(&self) -> bool
+        ensures { Decides result (Counted self.now.places.now self.now.slots.now) }
+    {
+        let mut sum: usize = 0;
+        for place in self.places {
+            if place.before as usize != sum {
+                return false;
+            }
+            sum += place.count as usize;
+        }
+        sum == self.slots.len()
+    }
+
+    // Whether each slot leads to a place.
+    pub fn is_aimed(&self) -> bool
+        ensures { Decides result (Aimed self.now.places.now self.now.slots.now) }
+    {
+        let places = self.places.len();
+        self.slots
+            .iter()
+            .all(|slot| (slot.target as usize) < places)
+    }
+
+    // Whether the names of the slots of the place `p` rise, as far as the table of slots reaches.
+    fn is_rising_at(&self, p: usize) -> bool
+        ensures { Decides result (RisingAt self.now.places.now self.now.slots.now p) }
+    {
+        self.slots_of(p).is_sorted_by(|a, b| a.name < b.name)
+    }
+
+    // Whether they do at each place.
+    pub fn is_rising(&self) -> bool
+        ensures { Decides result (Rising self.now.places.now self.now.slots.now) }
+    {
+        (0..self.places.len()).all(|p| self.is_rising_at(p))
     }
 }

@@ -1,6 +1,6 @@
 mod Answering
-mod Counting
 mod Numbered
 mod Deciding
+mod Finding
 mod Forming
 pub mod Showing

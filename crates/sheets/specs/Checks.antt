@@ -1,15 +1,11 @@
 -- The check of a table: what is refused under which number, and what is accepted.
-use Rattle.std.specs.Prelude.{◌≡◌, ℕ, zero, suc, ◌+◌, ◌<◌, ◌≤◌, ◌⊎◌, List, [], ◌∷◌, length, take, ◌≢◌}
+use Rattle.std.specs.Prelude.{◌≡◌, ℕ, suc, ◌<◌, ◌≤◌, ◌⊎◌, List, [], ◌∷◌, length, take, ◌≢◌}
 use Rattle.records.specs.declared.PlaceRecord.{PlaceRecord}
 use Rattle.records.specs.declared.SlotRecord.{SlotRecord}
-use Rattle.records.specs.Tables.{first_at, count_at, name_at, target_at, Owns, met, WellFormed}
+use Rattle.records.specs.Tables.{first_at, name_at, target_at, Owns, met, WellFormed}
+use Rattle.records.specs.Checks.{sum_before}
 use Rattle.names.specs.Names.{IsName}
 use Rattle.sheets.specs.Refusals.{Checks}
-
--- the sum of the counts of the places before p
-abbrev pub sum_before : {F : Type 0} → List (PlaceRecord F) → ℕ → ℕ
-sum_before ps zero = 0
-sum_before ps (suc p) = sum_before ps p + count_at ps p
 
 -- every slot has the number of a name
 abbrev pub Named : List SlotRecord → Type 0

@@ -7,10 +7,10 @@ use Rattle.sheets.specs.Checks.{IsSheet}
 use Rattle.sheets.specs.declared.sheet.Sheet.{Sheet}
 
 abbrev pub shown_places : {K F : Type 0} {kind : Ghosts K F} → Sheet K F kind → List (PlaceRecord F)
-shown_places s = s.places.now
+shown_places s = s.tables.places.now
 
 abbrev pub shown_slots : {K F : Type 0} {kind : Ghosts K F} → Sheet K F kind → List SlotRecord
-shown_slots s = s.slots.now
+shown_slots s = s.tables.slots.now
 
 pub record ShowsNothing {K F : Type 0} {kind : Ghosts K F} (s : Sheet K F kind) : Type 0 where
   pub places : shown_places s ≡ []

@@ -1,52 +1,48 @@
 // The check of two tables. Each check goes over the whole of both before the next begins.
+ghost use Rattle.std.specs.Prelude.{◌≡◌, take, IfOk};
 ghost use Rattle.sheets.specs.Checks.{table_checks};
 ghost use Rattle.sheets.specs.Faults.{number_of};
 ghost use Rattle.sheets.specs.Refusals.{Answered, refusal};
 
-use self::counts::{leads_outside, wrong_counts};
-use self::naming::{falls, nameless};
+use self::naming::is_named;
 use self::numbering::other_numbering;
 use crate::fault::SheetFault;
-use records::{PlaceRecord, SlotRecord};
+use records::{Counts, MOST_PLACES, MOST_SLOTS, Tables};
 
-mod counts;
 mod naming;
 mod numbering;
 
-// The most places, and the most slots, of a sheet.
-pub const MOST_PLACES: usize = 1000;
-
-pub const MOST_SLOTS: usize = 4000;
-
-// Whether the first `place_count` places and the first `slot_count` slots are a sheet, and if not, the first fault.
+// The first places and slots of the tables, as many as are counted, if they are a sheet, and if not, the first fault.
 pub(crate) fn checked<F: Copy>(
-    places: &[PlaceRecord<F>],
-    slots: &[SlotRecord],
-    place_count: usize,
-    slot_count: usize,
-) -> Result<(), SheetFault>
-    ensures { Answered (table_checks places.now slots.now place_count slot_count) (refusal number_of result) }
+    tables: Tables<'_, F>,
+    counts: Counts,
+) -> Result<Tables<'_, F>, SheetFault>
+    ensures answer { Answered (table_checks tables.entry.places.now tables.entry.slots.now counts.places counts.slots) (refusal number_of result) }
+    ensures places { IfOk result (λ t. t.places.now ≡ take counts.places tables.entry.places.now) }
+    ensures slots { IfOk result (λ t. t.slots.now ≡ take counts.slots tables.entry.slots.now) }
 {
-    if place_count == 0 {
+    if counts.places == 0 {
         return Err(SheetFault::NoPlace);
     }
-    if place_count > MOST_PLACES
-        || place_count > places.len()
-        || slot_count > MOST_SLOTS
-        || slot_count > slots.len()
+    if counts.places > MOST_PLACES
+        || counts.places > tables.places.len()
+        || counts.slots > MOST_SLOTS
+        || counts.slots > tables.slots.len()
     {
         return Err(SheetFault::TooMany);
     }
-    let places = &places[0..place_count];
-    let slots = &slots[0..slot_count];
-    if wrong_counts(places, slots) || leads_outside(places, slots) {
+    let shown = Tables {
+        places: &tables.places[..counts.places],
+        slots: &tables.slots[..counts.slots],
+    };
+    if !shown.is_counted() || !shown.is_aimed() {
         return Err(SheetFault::WrongCounts);
     }
-    if nameless(slots) || falls(places, slots) {
+    if !is_named(shown.slots) || !shown.is_rising() {
         return Err(SheetFault::WrongNames);
     }
-    if other_numbering(places, slots) {
+    if other_numbering(shown) {
         return Err(SheetFault::OtherNumbering);
     }
-    Ok(())
+    Ok(shown)
 }

@@ -9,7 +9,7 @@ use super::Sheet;
 use crate::fault::SheetFault;
 use crate::table::checked;
 use kinds::kind::Kind;
-use records::{PlaceRecord, SlotRecord};
+use records::{Counts, Tables};
 
 impl<'a, K: Kind> Sheet<'a, K> {
     // A sheet that shows nothing.
@@ -17,27 +17,21 @@ impl<'a, K: Kind> Sheet<'a, K> {
         ensures { ShowsNothing result }
     {
         Sheet {
-            places: &[],
-            slots: &[],
+            tables: Tables {
+                places: &[],
+                slots: &[],
+            },
         }
     }
 
-    // Makes the sheet show the first `place_count` places and the first `slot_count` slots if they are one, and else leaves it.
-    pub fn check(
-        &mut self,
-        places: &'a [PlaceRecord<K::Form>],
-        slots: &'a [SlotRecord],
-        place_count: usize,
-        slot_count: usize,
-    ) -> Result<(), SheetFault>
-        ensures answer { Answered (table_checks places.now slots.now place_count slot_count) (refusal number_of result) }
-        ensures accepted { Decides (is_ok result) (Holds places.now slots.now place_count slot_count) }
-        ensures places { shown_places self.new ≡ after result (take place_count places.now) (shown_places self.old) }
-        ensures slots { shown_slots self.new ≡ after result (take slot_count slots.now) (shown_slots self.old) }
+    // Makes the sheet show the first places and slots of the tables, as many as are counted, if they are one, and else leaves it.
+    pub fn check(&mut self, tables: Tables<'a, K::Form>, counts: Counts) -> Result<(), SheetFault>
+        ensures answer { Answered (table_checks tables.entry.places.now tables.entry.slots.now counts.places counts.slots) (refusal number_of result) }
+        ensures accepted { Decides (is_ok result) (Holds tables.entry.places.now tables.entry.slots.now counts.places counts.slots) }
+        ensures places { shown_places self.new ≡ after result (take counts.places tables.entry.places.now) (shown_places self.old) }
+        ensures slots { shown_slots self.new ≡ after result (take counts.slots tables.entry.slots.now) (shown_slots self.old) }
     {
-        checked(places, slots, place_count, slot_count)?;
-        self.places = &places[0..place_count];
-        self.slots = &slots[0..slot_count];
+        self.tables = checked(tables, counts)?;
         Ok(())
     }
 
@@ -45,6 +39,6 @@ impl<'a, K: Kind> Sheet<'a, K> {
     pub fn is_empty(&self) -> bool
         ensures { MatchBool result (ShowsNothing self.now) (ShowsSheet self.now) }
     {
-        self.places.len() == 0
+        self.tables.places.is_empty()
     }
 }

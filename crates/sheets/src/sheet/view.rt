@@ -11,13 +11,13 @@ impl<'a, K: Kind> Sheet<'a, K> {
     pub fn places(&self) -> &'a [PlaceRecord<K::Form>]
         ensures { result.now ≡ shown_places self.now }
     {
-        self.places
+        self.tables.places
     }
 
     // The records of the slots shown.
     pub fn slots(&self) -> &'a [SlotRecord]
         ensures { result.now ≡ shown_slots self.now }
     {
-        self.slots
+        self.tables.slots
     }
 }

@@ -1,39 +1,36 @@
 // The numbering of a table's places.
-ghost use Rattle.std.specs.Prelude.{◌≡◌, ◌≤◌, length, Decides, MatchOption};
-ghost use Rattle.records.specs.Tables.{met};
+ghost use Rattle.std.specs.Prelude.{◌≡◌, length, Decides, MatchOption};
+ghost use Rattle.records.specs.Checks.{Counted};
 ghost use Rattle.sheets.specs.Checks.{OtherNumbering};
-ghost use Rattle.sheets.specs.Scans.{Ahead, Counted};
+ghost use Rattle.sheets.specs.Scans.{Ahead, met_from};
 
-use records::{PlaceRecord, SlotRecord};
+use records::{SlotRecord, Tables};
 
 // Whether the places are numbered otherwise than by the slots in turn.
-pub(crate) fn other_numbering<F: Copy>(places: &[PlaceRecord<F>], slots: &[SlotRecord]) -> bool
-    requires { Counted places.now slots.now }
-    ensures { Decides result (OtherNumbering places.now slots.now) }
+pub(crate) fn other_numbering<F: Copy>(tables: Tables<'_, F>) -> bool
+    requires { Counted tables.places.now tables.slots.now }
+    ensures { Decides result (OtherNumbering tables.entry.places.now tables.entry.slots.now) }
 {
-    let mut next: usize = 1;
-    for (p, place) in places.iter().enumerate() {
+    let mut next = 1;
+    for p in 0..tables.places.len() {
         if p >= next {
             return true;
         }
-        let from = place.before as usize;
-        match numbered(slots, from, from + place.count as usize, next) {
-            Some(number) => next = number,
-            None => return true,
-        }
+        let Some(number) = numbered(tables.slots_of(p), next) else {
+            return true;
+        };
+        next = number;
     }
     false
 }
 
-// How many places are numbered after the slots at `from` and up to `to`, where `next` are before them; none if one of them leads
-// past the next number.
-fn numbered(slots: &[SlotRecord], from: usize, to: usize, next: usize) -> Option<usize>
-    requires { (from ≤ to) × ((to ≤ length slots.now) × (next ≡ met slots.now from)) }
-    ensures { MatchOption result (Ahead slots.now from to) (λ n. (n ≡ met slots.now to) × (Ahead slots.now from to → ⊥)) }
+// How many places are numbered after these slots, where `next` are before them; none if one of them leads past the next number.
+fn numbered(slots: &[SlotRecord], next: usize) -> Option<usize>
+    ensures { MatchOption result (Ahead next slots.now) (λ n. (n ≡ met_from next slots.now (length slots.now)) × (Ahead next slots.now → ⊥)) }
 {
     let mut next = next;
-    for i in from..to {
-        let target = slots[i].target as usize;
+    for slot in slots {
+        let target = slot.target as usize;
         if target > next {
             return None;
         }

@@ -1,73 +1,35 @@
-use Rattle.std.proofs.Common.{◌⊎◌, take, refl, inl, inr, arith}
-use native.Mathlib.Nat.{sub-zero}
-use Rattle.sheets.specs.Checks.{WrongCounts, Outside, Nameless, NotRising, OtherNumbering}
-use Rattle.sheets.proofs.Answering.{not_decided, neither}
-use Rattle.sheets.proofs.Counting.{counted}
-use Rattle.sheets.proofs.Forming.{few}
+use Rattle.std.proofs.Common.{refl, inl, inr, arith}
+use Rattle.sheets.proofs.Answering.{not_decided}
+use Rattle.sheets.proofs.Forming.{refuses_counts, refuses_names, refuses_numbering, passes}
 use Rattle.sheets.proofs.table.checked.Goals as goal
-use Rattle.sheets.proofs.table.checked.Goals.{then-wrong_counts-via-then-wrong_counts, then-wrong_counts-via-else-wrong_counts+then-leads_outside}
-use Rattle.sheets.proofs.table.checked.Goals.{then-nameless-via-then-nameless, then-nameless-via-else-nameless+then-falls}
+use Rattle.sheets.proofs.table.checked.Goals.{then-not-is_counted-via-then-not-is_counted, then-not-is_counted-via-else-not-is_counted+then-not-is_aimed}
+use Rattle.sheets.proofs.table.checked.Goals.{then-not-is_named-via-then-not-is_named, then-not-is_named-via-else-not-is_named+then-not-is_rising}
 
-pub returns-then-wrong_counts : goal.returns-then-wrong_counts
-returns-then-wrong_counts g c =
-    let ps = c.args.places.now in
-    let ss = c.args.slots.now in
-    let n = c.args.place_count in
-    let m = c.args.slot_count in
-    let limits = few ps ss n m (omega arith) (omega arith) (omega arith) (omega arith) in
-    let fault : WrongCounts (take n ps) (take m ss) ⊎ Outside (take n ps) (take m ss) =
-    elim c.then-wrong_counts.branch [
-      | then-wrong_counts-via-then-wrong_counts w ↦ inl (simp sub-zero at (w.if-wrong_counts.ensures.0 refl))
-      | then-wrong_counts-via-else-wrong_counts+then-leads_outside w ↦ inr (simp sub-zero at (w.if-leads_outside.ensures.0 refl))
-    ] in
-    inr (λ none. omega arith, inr (limits, inl (fault, refl)))
+pub returns-then-not-is_counted-clause-answer : goal.returns-then-not-is_counted-clause-answer
+returns-then-not-is_counted-clause-answer g c =
+    refuses_counts _ _ _ _ (omega arith) (omega arith) (omega arith) (omega arith) (omega arith)
+    (elim c.then-not-is_counted.branch [
+      | then-not-is_counted-via-then-not-is_counted w ↦ inl (not_decided w.if-not-is_counted.ensures)
+      | then-not-is_counted-via-else-not-is_counted+then-not-is_aimed w ↦ inr (not_decided w.if-not-is_aimed.ensures)
+    ])
 
-pub falls-requires : goal.falls-requires
-falls-requires g c = counted _ _ (not_decided c.if-wrong_counts.ensures) (not_decided c.if-leads_outside.ensures)
+pub returns-then-not-is_named-clause-answer : goal.returns-then-not-is_named-clause-answer
+returns-then-not-is_named-clause-answer g c =
+    refuses_names _ _ _ _ (omega arith) (omega arith) (omega arith) (omega arith) (omega arith)
+    (c.if-not-is_counted.ensures.0 refl) (c.if-not-is_aimed.ensures.0 refl)
+    (elim c.then-not-is_named.branch [
+      | then-not-is_named-via-then-not-is_named w ↦ inl (not_decided w.if-not-is_named.ensures)
+      | then-not-is_named-via-else-not-is_named+then-not-is_rising w ↦ inr (not_decided w.if-not-is_rising.ensures)
+    ])
 
-pub returns-then-nameless : goal.returns-then-nameless
-returns-then-nameless g c =
-    let ps = c.args.places.now in
-    let ss = c.args.slots.now in
-    let n = c.args.place_count in
-    let m = c.args.slot_count in
-    let limits = few ps ss n m (omega arith) (omega arith) (omega arith) (omega arith) in
-    let right : WrongCounts (take n ps) (take m ss) ⊎ Outside (take n ps) (take m ss) → ⊥ =
-    neither (simp sub-zero at c.if-wrong_counts.ensures) (simp sub-zero at c.if-leads_outside.ensures) in
-    let fault : Nameless (take m ss) ⊎ NotRising (take n ps) (take m ss) =
-    elim c.then-nameless.branch [
-      | then-nameless-via-then-nameless w ↦ inl (simp sub-zero at (w.if-nameless.ensures.0 refl))
-      | then-nameless-via-else-nameless+then-falls w ↦ inr (simp sub-zero at (w.if-falls.ensures.0 refl))
-    ] in
-    inr (λ none. omega arith, inr (limits, inr (right, inl (fault, refl))))
+pub returns-then-other_numbering-clause-answer : goal.returns-then-other_numbering-clause-answer
+returns-then-other_numbering-clause-answer g c =
+    refuses_numbering _ _ _ _ (omega arith) (omega arith) (omega arith) (omega arith) (omega arith)
+    (c.if-not-is_counted.ensures.0 refl) (c.if-not-is_aimed.ensures.0 refl) (c.if-not-is_named.ensures.0 refl) (c.if-not-is_rising.ensures.0 refl)
+    (c.if-other_numbering.ensures.0 refl)
 
-pub other_numbering-requires : goal.other_numbering-requires
-other_numbering-requires g c = counted _ _ (not_decided c.if-wrong_counts.ensures) (not_decided c.if-leads_outside.ensures)
-
-pub returns-then-other_numbering : goal.returns-then-other_numbering
-returns-then-other_numbering g c =
-    let ps = c.args.places.now in
-    let ss = c.args.slots.now in
-    let n = c.args.place_count in
-    let m = c.args.slot_count in
-    let limits = few ps ss n m (omega arith) (omega arith) (omega arith) (omega arith) in
-    let right : WrongCounts (take n ps) (take m ss) ⊎ Outside (take n ps) (take m ss) → ⊥ =
-    neither (simp sub-zero at c.if-wrong_counts.ensures) (simp sub-zero at c.if-leads_outside.ensures) in
-    let rising : Nameless (take m ss) ⊎ NotRising (take n ps) (take m ss) → ⊥ =
-    neither (simp sub-zero at c.if-nameless.ensures) (simp sub-zero at c.if-falls.ensures) in
-    let fault : OtherNumbering (take n ps) (take m ss) = simp sub-zero at (c.if-other_numbering.ensures.0 refl) in
-    inr (λ none. omega arith, inr (limits, inr (right, inr (rising, inl (fault, refl)))))
-
-pub returns : goal.returns
-returns g c =
-    let ps = c.args.places.now in
-    let ss = c.args.slots.now in
-    let n = c.args.place_count in
-    let m = c.args.slot_count in
-    let limits = few ps ss n m (omega arith) (omega arith) (omega arith) (omega arith) in
-    let right : WrongCounts (take n ps) (take m ss) ⊎ Outside (take n ps) (take m ss) → ⊥ =
-    neither (simp sub-zero at c.if-wrong_counts.ensures) (simp sub-zero at c.if-leads_outside.ensures) in
-    let rising : Nameless (take m ss) ⊎ NotRising (take n ps) (take m ss) → ⊥ =
-    neither (simp sub-zero at c.if-nameless.ensures) (simp sub-zero at c.if-falls.ensures) in
-    let numbered : OtherNumbering (take n ps) (take m ss) → ⊥ = not_decided (simp sub-zero at c.if-other_numbering.ensures) in
-    inr (λ none. omega arith, inr (limits, inr (right, inr (rising, inr (numbered, refl)))))
+pub returns-clause-answer : goal.returns-clause-answer
+returns-clause-answer g c =
+    passes _ _ _ _ (omega arith) (omega arith) (omega arith) (omega arith) (omega arith)
+    (c.if-not-is_counted.ensures.0 refl) (c.if-not-is_aimed.ensures.0 refl) (c.if-not-is_named.ensures.0 refl) (c.if-not-is_rising.ensures.0 refl)
+    (not_decided c.if-other_numbering.ensures)

@@ -1,24 +1,26 @@
 use Rattle.std.proofs.Common.{Ok, Err, refl, arith}
-use native.Mathlib.Nat.{sub-zero}
 use Rattle.std.proofs.lemmas.Result.{err_from_is_err_and}
 use Rattle.sheets.proofs.Forming.{acceptance}
 use Rattle.sheets.proofs.sheet.Sheet.check.Goals as goal
 
-pub returns-in_err-checked : goal.returns-in_err-checked
-returns-in_err-checked g c =
+pub returns-in_err-self-clause-answer : goal.returns-in_err-self-clause-answer
+returns-in_err-self-clause-answer g c =
     let p = err_from_is_err_and c.from_residual.result c.from_residual.ensures.1 in
-    let answer = c.in_err-checked.ensures in
-    let accepted = acceptance c.args.places.now c.args.slots.now c.args.place_count c.args.slot_count (Err c.in_err-checked.field-0.0) answer in
-    rw (p.1, p.2) (record { answer = answer; accepted = accepted; places = refl; slots = refl })
+    rw (p.1, p.2) c.in_err-self.ensures.answer
+
+pub returns-in_err-self-clause-accepted : goal.returns-in_err-self-clause-accepted
+returns-in_err-self-clause-accepted g c =
+    let p = err_from_is_err_and c.from_residual.result c.from_residual.ensures.1 in
+    rw p.1 (acceptance _ _ _ _ {A = Unit {0}} (Err c.in_err-self.field-0.0) c.in_err-self.ensures.answer)
 
 pub invariant_of-self : goal.invariant_of-self
 invariant_of-self g c =
-    let accepted = acceptance c.args.places.now c.args.slots.now c.args.place_count c.args.slot_count (Ok tt) c.in_ok-checked.ensures in
-    let sheet = (accepted.0 refl).sheet in
-    simp sub-zero (record { limits = (sheet.few_places, sheet.few_slots); shown = λ _. ∣ sheet ∣₁; nothing = λ none. absurd (omega (arith, sheet.formed.rooted)) })
+    let sheet = ((acceptance _ _ _ _ (Ok c.in_ok-self.field-0) c.in_ok-self.ensures.answer).0 refl).sheet in
+    rw (c.in_ok-self.ensures.places, c.in_ok-self.ensures.slots)
+    (record { limits = (sheet.few_places, sheet.few_slots); shown = λ _. ∣ sheet ∣₁; nothing = λ none. absurd (omega (arith, sheet.formed.rooted)) })
 
-pub returns : goal.returns
-returns g c =
-    let answer = c.in_ok-checked.ensures in
-    let accepted = acceptance c.args.places.now c.args.slots.now c.args.place_count c.args.slot_count (Ok tt) answer in
-    record { answer = answer; accepted = accepted; places = simp sub-zero; slots = simp sub-zero }
+pub returns-clause-answer : goal.returns-clause-answer
+returns-clause-answer g c = c.in_ok-self.ensures.answer
+
+pub returns-clause-accepted : goal.returns-clause-accepted
+returns-clause-accepted g c = acceptance _ _ _ _ (Ok c.in_ok-self.field-0) c.in_ok-self.ensures.answer
