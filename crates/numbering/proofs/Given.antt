@@ -44,7 +44,7 @@ module _ (o : List ℕ) (number : List (Option ℕ)) (known : Known o number) wh
     unknown k h e = let z : link number v ≡ Some k = ap (link number) (sym e) ∙ known k h in absurd cc
 
     pub room : (n : ℕ) → length number ≡ n → v < n → length o < n
-    room n long h = omega (arith, order_few n (o ++ v ∷ []) (order_push n o v (ordered n long) h unknown), length_push o v)
+    room n long h = omega (arith, order_few (order_push n o v (ordered n long) h unknown), length_push o v)
 
     pub extended_new : Extended o v (length o) (o ++ v ∷ [])
     extended_new =

@@ -5,17 +5,17 @@ use native.Mathlib.Decide.{dec_lt, ℕ_discrete}
 use Rattle.std.proofs.lemmas.List.{get_or-set_same, get_or-set_other}
 use Rattle.numbering.specs.Classes.{link, past, Last, Listed}
 
-module _ (c : ℕ → ℕ) where
-  pub listed_none : (n : ℕ) (last previous : List (Option ℕ)) → ((v : ℕ) → v < n → link last v ≡ None) → Listed c n 0 last previous
-  listed_none n last previous none =
+module _ {c : ℕ → ℕ} where
+  pub listed_none : {n : ℕ} {last previous : List (Option ℕ)} → ((v : ℕ) → v < n → link last v ≡ None) → Listed c n 0 last previous
+  listed_none none =
       record {
         starts = λ v h. record { is = λ x e. let z = none v h in absurd cc; gap = λ y l e. omega arith };
         steps = λ x h. omega arith;
       }
 
-  pub listed_more : (n x : ℕ) (last previous : List (Option ℕ)) → x < n → c x < n → n ≤ length last → n ≤ length previous → Listed c n x last previous
+  pub listed_more : {n x : ℕ} {last previous : List (Option ℕ)} → x < n → c x < n → n ≤ length last → n ≤ length previous → Listed c n x last previous
       → Listed c n (x + 1) (set last (c x) (Some x)) (set previous x (link last (c x)))
-  listed_more n x last previous x_in v_in long_l long_p g =
+  listed_more {n = n} {x = x} {last = last} {previous = previous} x_in v_in long_l long_p g =
       record {
         starts = λ u h.
             elim (ℕ_discrete u (c x)) [
@@ -44,6 +44,6 @@ module _ (c : ℕ → ℕ) where
             ];
       }
 
-  pub past_last : (v k : ℕ) (r : Option ℕ) → Last c v k r → past r ≤ k
-  past_last v k None g = omega arith
-  past_last v k (Some x) g = omega (arith, (g.is x refl).0)
+  pub past_last : {v k : ℕ} {r : Option ℕ} → Last c v k r → past r ≤ k
+  past_last {r = None} g = omega arith
+  past_last {r = Some x} g = omega (arith, (g.is x refl).0)

@@ -9,8 +9,7 @@ use Rattle.numbering.proofs.classes.Classes.new.Goals as goal
 pub loop-x-init : goal.loop-x-init
 loop-x-init g c =
     record {
-      listed = listed_none (at c.args.ends.now) (length c.args.tables.places.now) _ _
-          (λ v h. get_or-replicate {A = Option ℕ} 1000 v None None (omega (arith, c.requires.size)));
+      listed = listed_none (λ v h. get_or-replicate {A = Option ℕ} 1000 v None None (omega (arith, c.requires.size)));
       long_last = refl;
       long_previous = refl;
     }
@@ -27,7 +26,7 @@ loop-x-preserved g c =
     let is : get_or (take n ends) x 0 ≡ at ends x = get_or-take n ends x 0 h in
     record {
       listed = subst (λ v. Listed (at ends) n (x + 1) (set last v (Some x)) (set previous x (link last v))) (sym is)
-          (listed_more (at ends) n x last previous h (c.requires.graph.inside x h) (omega (arith, inv.long_last, c.requires.size)) (omega (arith, inv.long_previous, c.requires.size)) inv.listed);
+          (listed_more h (c.requires.graph.inside x h) (omega (arith, inv.long_last, c.requires.size)) (omega (arith, inv.long_previous, c.requires.size)) inv.listed);
       long_last = simp length-set inv.long_last;
       long_previous = simp length-set inv.long_previous;
     }
