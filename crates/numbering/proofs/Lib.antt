@@ -1,8 +1,9 @@
 pub mod Listing
 pub mod Picks
-pub mod Taking
 pub mod Building
 pub mod Numbering
+pub mod Taking
+pub mod Given
 pub mod Rows
 pub mod Ending
 pub mod Whole

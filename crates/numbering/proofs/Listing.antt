@@ -1,47 +1,49 @@
--- The lists of members, made from the last place down.
-use Rattle.std.proofs.Common.{◌≡◌, ℕ, ◌+◌, ◌<◌, ◌≤◌, List, length, set, sym, ap, ◌∙◌, subst, arith}
+-- The lists of the classes, made from the first place up.
+use Rattle.std.proofs.Common.{◌≡◌, ℕ, ◌+◌, ◌<◌, ◌≤◌, List, length, set, sym, refl, ap, ◌∙◌, subst, arith}
+use Rattle.std.specs.Prelude.{Option, Some, None}
 use native.Mathlib.Decide.{dec_lt, ℕ_discrete}
 use Rattle.std.proofs.lemmas.List.{get_or-set_same, get_or-set_other}
-use Rattle.numbering.specs.Quotient.{at}
-use Rattle.numbering.specs.Members.{Next, Listed}
+use Rattle.numbering.specs.Classes.{link, past, Last, Listed}
 
-module _ (c : ℕ → ℕ) (n : ℕ) where
-  pub listed_none : (first next : List ℕ) → ((v : ℕ) → v < n → n ≤ at first v) → Listed c n n first next
-  listed_none first next none =
+module _ {c : ℕ → ℕ} where
+  pub listed_none : {n : ℕ} {last previous : List (Option ℕ)} → ((v : ℕ) → v < n → link last v ≡ None) → Listed c n 0 last previous
+  listed_none none =
       record {
-        starts = λ v h. record { is = λ l. absurd (omega (arith, none v h)); gap = λ y a b d. absurd (omega arith) };
-        steps = λ x a h. absurd (omega arith);
+        starts = λ v h. record { is = λ x e. let z = none v h in absurd cc; gap = λ y l e. omega arith };
+        steps = λ x h. omega arith;
       }
 
-  pub listed_more : (x : ℕ) (first next : List ℕ) → x < n → c x < n → n ≤ length first → n ≤ length next → Listed c n (x + 1) first next
-      → Listed c n x (set first (c x) x) (set next x (at first (c x)))
-  listed_more x first next x_in v_in long_f long_n g =
+  pub listed_more : {n x : ℕ} {last previous : List (Option ℕ)} → x < n → c x < n → n ≤ length last → n ≤ length previous → Listed c n x last previous
+      → Listed c n (x + 1) (set last (c x) (Some x)) (set previous x (link last (c x)))
+  listed_more {n = n} {x = x} {last = last} {previous = previous} x_in v_in long_l long_p g =
       record {
         starts = λ u h.
             elim (ℕ_discrete u (c x)) [
               | yes e ↦
-                  let here : at (set first (c x) x) u ≡ x = ap (at (set first (c x) x)) e ∙ get_or-set_same first (c x) x 0 (omega arith) in
-                  subst (Next c n u x) (sym here) (record { is = λ l. (omega arith, sym e); gap = λ y a b d s. omega arith })
+                  let here : link (set last (c x) (Some x)) u ≡ Some x = ap (link (set last (c x) (Some x))) e ∙ get_or-set_same last (c x) (Some x) None (omega arith) in
+                  subst (Last c u (x + 1)) (sym here) (record { is = λ y s. let z : x ≡ y = cc in (omega arith, ap c (sym z) ∙ sym e); gap = λ y l s. l })
               | no ne ↦
                   let old = g.starts u h in
-                  subst (Next c n u x) (sym (get_or-set_other first (c x) u x 0 ne))
+                  subst (Last c u (x + 1)) (sym (get_or-set_other last (c x) u (Some x) None ne))
                   (record {
-                    is = λ l. let z = old.is l in (omega (arith, z.0), z.1);
-                    gap = λ y a b d s.
-                        elim (dec_lt x y) [
-                          | yes lt ↦ old.gap y (omega arith) b d s
-                          | no ge ↦ let e : y ≡ x = omega arith in ne (sym s ∙ ap c e)
+                    is = λ y s. let z = old.is y s in (omega (arith, z.0), z.1);
+                    gap = λ y l s.
+                        elim (dec_lt y x) [
+                          | yes lt ↦ old.gap y lt s
+                          | no ge ↦ let e : y ≡ x = omega arith in absurd (ne (sym s ∙ ap c e))
                         ];
                   })
             ];
-        steps = λ y a h.
+        steps = λ y h.
             elim (ℕ_discrete y x) [
               | yes e ↦
-                  let here : at (set next x (at first (c x))) y ≡ at first (c x) = ap (at (set next x (at first (c x)))) e ∙ get_or-set_same next x (at first (c x)) 0 (omega arith) in
-                  subst (λ k. Next c n (c k) (k + 1) (at (set next x (at first (c x))) y)) (sym e) (subst (Next c n (c x) (x + 1)) (sym here) (g.starts (c x) v_in))
-              | no ne ↦ subst (Next c n (c y) (y + 1)) (sym (get_or-set_other next x y (at first (c x)) 0 ne)) (g.steps y (omega (arith, ne)) h)
+                  let here : link (set previous x (link last (c x))) y ≡ link last (c x) =
+                  ap (link (set previous x (link last (c x)))) e ∙ get_or-set_same previous x (link last (c x)) None (omega arith) in
+                  subst (λ k. Last c (c k) k (link (set previous x (link last (c x))) y)) (sym e) (subst (Last c (c x) x) (sym here) (g.starts (c x) v_in))
+              | no ne ↦ subst (Last c (c y) y) (sym (get_or-set_other previous x y (link last (c x)) None ne)) (g.steps y (omega (arith, ne)))
             ];
       }
 
-  pub step : (first next : List ℕ) (v x : ℕ) → Listed c n 0 first next → x < n → c x ≡ v → Next c n v (x + 1) (at next x)
-  step first next v x g h e = subst (λ u. Next c n u (x + 1) (at next x)) e (g.steps x (omega arith) h)
+  pub past_last : {v k : ℕ} {r : Option ℕ} → Last c v k r → past r ≤ k
+  past_last {r = None} g = omega arith
+  past_last {r = Some x} g = omega (arith, (g.is x refl).0)

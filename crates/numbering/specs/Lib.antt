@@ -1,6 +1,6 @@
 pub mod Quotient
 pub mod Sides
-pub mod Members
+pub mod Classes
 pub mod Picking
 pub mod Numbers
 pub mod Writing

@@ -28,6 +28,17 @@ pub record Work {F : Type 0} (wp : List (PlaceRecord F)) (ws : List SlotRecord) 
   pub closed : (x y f p q : ℕ) → Edge wp ws x f p → Edge wp ws y f q → c x ≡ c y → c p ≡ c q
   pub reached : (x : ℕ) → x < length wp → Reached wp ws c x
 
+-- what of this needs no way from the first place
+pub record Graph {F : Type 0} (wp : List (PlaceRecord F)) (ws : List SlotRecord) (c : ℕ → ℕ) : Type 0 where
+  pub rooted : 0 < length wp
+  pub inside : (x : ℕ) → x < length wp → c x < length wp
+  pub rests : (x : ℕ) → x < length wp → c (c x) ≡ c x
+  pub blocks : (x : ℕ) → first_at wp x + count_at wp x ≤ length ws
+  pub aimed : (i : ℕ) → i < length ws → target_at ws i < length wp
+  pub own : (x y i : ℕ) → Owns wp x i → Owns wp y i → x ≡ y
+  pub rising : (x i j : ℕ) → i < j → Owns wp x i → Owns wp x j → name_at ws i < name_at ws j
+  pub closed : (x y f p q : ℕ) → Edge wp ws x f p → Edge wp ws y f q → c x ≡ c y → c p ≡ c q
+
 -- ps and ss are the sheet of the classes, numbered as the slots meet them
 pub record Quotient {F : Type 0} (wp : List (PlaceRecord F)) (ws : List SlotRecord) (c : ℕ → ℕ) (ps : List (PlaceRecord F)) (ss : List SlotRecord) : Type 0 where
   pub formed : WellFormed ps ss

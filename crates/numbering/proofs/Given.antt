@@ -1,0 +1,102 @@
+-- The numbers given so far.
+use Rattle.std.proofs.Common.{◌≡◌, ℕ, ◌<◌, List, [], ◌∷◌, ◌++◌, length, replicate, set, sym, refl, ap, ◌∙◌, ◌≢◌, arith}
+use Rattle.std.specs.Prelude.{Option, Some, None}
+use native.Mathlib.Decide.{dec_lt, ℕ_discrete}
+use Rattle.std.proofs.lemmas.List.{get_or_append_left, get_or_push, length_push, get_or-set_same, get_or-set_other, get_or-replicate, length-replicate, get_or_past}
+use Rattle.numbering.specs.Quotient.{at}
+use Rattle.numbering.specs.Classes.{link}
+use Rattle.numbering.specs.Numbers.{Known, Only}
+use Rattle.numbering.specs.Writing.{Order, Extended}
+use Rattle.numbering.proofs.Numbering.{order_push, order_few}
+
+module _ (o : List ℕ) (number : List (Option ℕ)) (known : Known o number) where
+  pub extended_found : (v j : ℕ) → j < length o → at o j ≡ v → Extended o v j o
+  extended_found v j h e =
+      record {
+        old = λ k l. refl;
+        near = omega arith;
+        size = omega arith;
+        is = e;
+        new = λ z. absurd (omega arith);
+      }
+
+  -- a table of n entries has the numbers of different ends below n
+  ordered : (n : ℕ) → length number ≡ n → Order n o
+  ordered n long =
+      record {
+        apart = λ i j l h e.
+            let a = known i (omega arith) in
+            let b : link number (at o i) ≡ Some j = ap (link number) e ∙ known j h in
+            let same : i ≡ j = cc in
+            omega arith;
+        inside = λ j h.
+            elim (dec_lt (at o j) n) [
+              | yes lt ↦ lt
+              | no ge ↦
+                  let a = known j h in
+                  let none : link number (at o j) ≡ None = get_or_past number (at o j) None (omega arith) in
+                  absurd cc
+            ];
+      }
+
+  module _ (v : ℕ) (free : link number v ≡ None) where
+    pub unknown : (k : ℕ) → k < length o → at o k ≢ v
+    unknown k h e = let z : link number v ≡ Some k = ap (link number) (sym e) ∙ known k h in absurd cc
+
+    pub room : (n : ℕ) → length number ≡ n → v < n → length o < n
+    room n long h = omega (arith, order_few (order_push n o v (ordered n long) h unknown), length_push o v)
+
+    pub extended_new : Extended o v (length o) (o ++ v ∷ [])
+    extended_new =
+        record {
+          old = λ k l. get_or_append_left o (v ∷ []) 0 k l;
+          near = omega arith;
+          size = omega (arith, length_push o v);
+          is = get_or_push o v 0 (length o) refl;
+          new = λ z k l. unknown k l;
+        }
+
+    pub known_more : v < length number → Known (o ++ v ∷ []) (set number v (Some (length o)))
+    known_more h k l =
+        elim (dec_lt k (length o)) [
+          | yes lt ↦
+              let old : at (o ++ v ∷ []) k ≡ at o k = get_or_append_left o (v ∷ []) 0 k lt in
+              ap (link (set number v (Some (length o)))) old ∙ get_or-set_other number v (at o k) (Some (length o)) None (unknown k lt) ∙ known k lt
+          | no ge ↦
+              let e : length o ≡ k = omega (arith, length_push o v) in
+              ap (link (set number v (Some (length o)))) (get_or_push o v 0 k e) ∙ get_or-set_same number v (Some (length o)) None h ∙ ap (λ (i : ℕ). Some i) e
+        ]
+
+    pub only_more : v < length number → Only o number → Only (o ++ v ∷ []) (set number v (Some (length o)))
+    only_more h only u k s =
+        elim (ℕ_discrete u v) [
+          | yes e ↦
+              let there : Some (length o) ≡ Some k =
+              sym (get_or-set_same number v (Some (length o)) None h) ∙ ap (link (set number v (Some (length o)))) (sym e) ∙ s in
+              let z : length o ≡ k = cc in
+              (omega (arith, length_push o v), get_or_push o v 0 k z ∙ sym e)
+          | no ne ↦
+              let w = only u k (sym (get_or-set_other number v u (Some (length o)) None ne) ∙ s) in
+              (omega (arith, w.0, length_push o v), get_or_append_left o (v ∷ []) 0 k w.0 ∙ w.1)
+        ]
+
+-- one number is given
+module _ (n v : ℕ) (h : v < n) where
+  empty : List (Option ℕ)
+  empty = replicate n None
+
+  free : (u : ℕ) → link empty u ≡ None
+  unfolding empty
+  free u =
+      elim (dec_lt u n) [
+        | yes lt ↦ get_or-replicate n u None None lt
+        | no ge ↦ get_or_past (replicate n None) u None (omega (arith, length-replicate {A = Option ℕ} n None))
+      ]
+
+  pub known_root : Known (v ∷ []) (set (replicate n None) v (Some 0))
+  unfolding empty
+  known_root = known_more [] empty (λ k l. absurd (omega arith)) v (free v) (omega (arith, length-replicate {A = Option ℕ} n None))
+
+  pub only_root : Only (v ∷ []) (set (replicate n None) v (Some 0))
+  unfolding empty
+  only_root = only_more [] empty (λ k l. absurd (omega arith)) v (free v) (omega (arith, length-replicate {A = Option ℕ} n None)) (λ u k s. let z = free u in absurd cc)
