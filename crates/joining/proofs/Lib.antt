@@ -1,6 +1,6 @@
 pub mod Forests
 pub mod Growth
 pub mod Walks
-pub mod Sides
+pub mod Beside
 pub mod Owning
 pub mod Ringing

@@ -1,14 +1,61 @@
 -- The walk over the slots of two places, x and y, at i and j.
-use Rattle.std.proofs.Common.{◌≡◌, ℕ, ◌+◌, ◌<◌, ◌≤◌, Bool, true, false, ◌||◌, ◌⊎◌, List, length, sym, refl, ap, ◌∙◌, subst, inl, inr, ⊎_elim, arith}
+use Rattle.std.proofs.Common.{◌≡◌, ℕ, suc, ◌+◌, ◌-◌, ◌<◌, ◌≤◌, Bool, true, false, ◌||◌, ◌⊎◌, List, ◌∷◌, length, get_or, take, drop, sym, refl, ap, ◌∙◌, subst, subst₂, inl, inr, ⊎_elim, arith}
+use Rattle.std.proofs.Math.Seq.{drop-cons}
+use Rattle.std.proofs.lemmas.List.{get_or-take, get_or_default, length-drop, length-take, length-take-le}
+use Rattle.std.proofs.lemmas.Slice.{between_is}
 use Rattle.std.proofs.lemmas.Bool.{cases_eq, cases_lt, cases_order, both_ways}
 use Rattle.records.specs.declared.PlaceRecord.{PlaceRecord}
 use Rattle.records.specs.declared.SlotRecord.{SlotRecord}
 use Rattle.joining.specs.Forest.{Forest, end, Same, Merges, Tells}
 use Rattle.joining.specs.Closure.{Agree, AgreeBelow, Covers, Closed, Grows}
 use Rattle.joining.specs.Closure.Closure.{given, stepped}
-use Rattle.records.specs.Tables.{first_at, count_at, name_at, target_at, Owns, Edge}
+use Rattle.records.specs.Tables.{first_at, count_at, blank_slot, name_at, target_at, Owns, Edge}
 use Rattle.joining.specs.Ordered.{Ordered}
 use Rattle.joining.proofs.Growth.{grows_none, grows_then, grows_merges, merges_one, tells_then}
+
+-- xs is what is left of the list ss before the index `past`
+pub record Rest {A : Type 0} (ss : List A) (past : ℕ) (xs : List A) : Type 0 where
+  pub long : length xs ≤ past
+  pub is : xs ≡ drop (past - length xs) (take past ss)
+
+pub rest_all : {A : Type 0} (ss : List A) (from count : ℕ) → from + count ≤ length ss
+    → Rest ss (from + count) (take count (drop from ss)) × (from + count - length (take count (drop from ss)) ≡ from)
+rest_all ss from count h =
+    let n : from + count - from ≡ count = omega arith in
+    let m : length (take count (drop from ss)) ≡ count = omega (arith, length-take count (drop from ss), length-drop from ss) in
+    let k : from + count - length (take count (drop from ss)) ≡ from = omega arith in (
+      record {
+        long = omega arith;
+        is = ap (λ z. take z (drop from ss)) (sym n) ∙ between_is ss from (from + count) ∙ ap (λ z. drop z (take (from + count) ss)) (sym k);
+      },
+      k,
+    )
+
+-- the first of what is left, and the rest of it
+pub record Next {A : Type 0} (ss : List A) (past : ℕ) (x : A) (xs ys : List A) : Type 0 where
+  pub within : past - length xs < past
+  pub read : (d : A) → get_or ss (past - length xs) d ≡ x
+  pub rest : Rest ss past ys
+  pub at : past - length ys ≡ past - length xs + 1
+  pub fewer : length ys < length xs
+
+pub rest_next : {A : Type 0} (ss : List A) (past : ℕ) (x : A) (xs ys : List A) → past ≤ length ss → xs ≡ x ∷ ys → Rest ss past xs → Next ss past x xs ys
+rest_next ss past x xs ys h e r =
+    let i : ℕ = past - length xs in
+    let n : length xs ≡ suc (length ys) = ap length e in
+    let long : length (take past ss) ≡ past = length-take-le past ss h in
+    let in_it : i < past = omega (arith, r.long) in
+    let cut : x ∷ ys ≡ get_or (take past ss) i x ∷ drop (suc i) (take past ss) = sym e ∙ r.is ∙ drop-cons (take past ss) i x (omega arith) in
+    let at : suc i ≡ past - length ys = omega (arith, r.long) in
+    let rest : ys ≡ drop (suc i) (take past ss) = cc in
+    let head : x ≡ get_or (take past ss) i x = cc in
+    record {
+      within = in_it;
+      read = λ d. get_or_default ss i d x (omega arith) ∙ sym (head ∙ get_or-take past ss i x in_it);
+      rest = record { long = omega (arith, r.long); is = rest ∙ ap (λ k. drop k (take past ss)) at };
+      at = omega arith;
+      fewer = omega arith;
+    }
 
 -- every common name with a slot behind i or behind j has its targets joined
 pub record Walked {F : Type 0} (ps : List (PlaceRecord F)) (ss : List SlotRecord) (x y : ℕ) (old new : List ℕ) (changed all : Bool) (i j : ℕ) : Type 0 where
@@ -168,3 +215,88 @@ module _ {F : Type 0} (ps : List (PlaceRecord F)) (ss : List SlotRecord) (ordere
       (λ l. sym (h v d.owns.place u l (sym s) f q p d e))
       (λ l. h u e.owns.place v l s f p q e d))
       (cases_order u v)
+
+-- the walk as far as `left` is left of the slots of x, and `right` of those of y
+pub record Walking {F : Type 0} (ps : List (PlaceRecord F)) (ss : List SlotRecord) (x y : ℕ) (old new : List ℕ) (changed all : Bool) (left right : List SlotRecord) : Type 0 where
+  pub of_x : Rest ss (first_at ps x + count_at ps x) left
+  pub of_y : Rest ss (first_at ps y + count_at ps y) right
+  pub walked : Walked ps ss x y old new changed all (first_at ps x + count_at ps x - length left) (first_at ps y + count_at ps y - length right)
+
+module _ {F : Type 0} (ps : List (PlaceRecord F)) (ss : List SlotRecord) (ordered : Ordered ps ss) (x y : ℕ) (x_in : x < length ps) (y_in : y < length ps) (old : List ℕ) where
+  abbrev slots_of : ℕ → List SlotRecord
+  slots_of p = take (count_at ps p) (drop (first_at ps p) ss)
+
+  pub walking_none : Forest old → Walking ps ss x y old old false true (slots_of x) (slots_of y)
+  walking_none forest =
+      let a = rest_all ss (first_at ps x) (count_at ps x) (ordered.inside x x_in) in
+      let b = rest_all ss (first_at ps y) (count_at ps y) (ordered.inside y y_in) in
+      record {
+        of_x = a.0;
+        of_y = b.0;
+        walked = subst₂ (λ (i j : ℕ). Walked ps ss x y old old false true i j) (sym a.1) (sym b.1) (walked_none ps ss ordered x y old forest);
+      }
+
+  module _ (new : List ℕ) (changed all : Bool) (left right : List SlotRecord) (w : Walking ps ss x y old new changed all left right) where
+    pub walking_all : (length left ≡ 0) ⊎ (length right ≡ 0) → Agree (Edge ps ss) new x y
+    walking_all h =
+        walked_all ps ss ordered x y old new changed all _ _ w.walked (⊎_elim (λ e. inl (omega arith)) (λ e. inr (omega arith)) h)
+
+    pub walking_covers : length left ≡ 0 → all ≡ true → Covers (Edge ps ss) y x
+    walking_covers e = walked_covers ps ss ordered x y old new changed all _ _ w.walked (omega arith)
+
+    module _ (s t : SlotRecord) (after_s after_t : List SlotRecord) (is_s : left ≡ s ∷ after_s) (is_t : right ≡ t ∷ after_t) where
+      next_x : Next ss (first_at ps x + count_at ps x) s left after_s
+      next_x = rest_next ss _ s left after_s (ordered.inside x x_in) is_s w.of_x
+
+      next_y : Next ss (first_at ps y + count_at ps y) t right after_t
+      next_y = rest_next ss _ t right after_t (ordered.inside y y_in) is_t w.of_y
+
+      abbrev i : ℕ
+      i = first_at ps x + count_at ps x - length left
+
+      abbrev j : ℕ
+      j = first_at ps y + count_at ps y - length right
+
+      name_s : name_at ss i ≡ s.name
+      name_s = ap (λ r. r.name) (next_x.read blank_slot)
+
+      name_t : name_at ss j ≡ t.name
+      name_t = ap (λ r. r.name) (next_y.read blank_slot)
+
+      target_s : target_at ss i ≡ s.target
+      target_s = ap (λ r. r.target) (next_x.read blank_slot)
+
+      target_t : target_at ss j ≡ t.target
+      target_t = ap (λ r. r.target) (next_y.read blank_slot)
+
+      pub leads_in : (s.target < length ps) × (t.target < length ps)
+      leads_in = (
+        omega (arith, target_s, ordered.leading i (omega (arith, next_x.within, ordered.inside x x_in))),
+        omega (arith, target_t, ordered.leading j (omega (arith, next_y.within, ordered.inside y y_in))),
+      )
+
+      pub walking_left : s.name < t.name → Walking ps ss x y old new changed false after_s right
+      walking_left less = record {
+        of_x = next_x.rest;
+        of_y = w.of_y;
+        walked = subst (λ (k : ℕ). Walked ps ss x y old new changed false k j) (sym next_x.at)
+            (walked_left ps ss ordered x y old new changed all i j w.walked next_x.within next_y.within (omega (arith, name_s, name_t)));
+      }
+
+      pub walking_right : t.name < s.name → Walking ps ss x y old new changed all left after_t
+      walking_right less = record {
+        of_x = w.of_x;
+        of_y = next_y.rest;
+        walked = subst (λ (k : ℕ). Walked ps ss x y old new changed all i k) (sym next_y.at)
+            (walked_right ps ss ordered x y old new changed all i j w.walked next_x.within next_y.within (omega (arith, name_s, name_t)));
+      }
+
+      pub walking_both : s.name ≡ t.name → Same old x y → (newer : List ℕ) (r : Bool) → Merges new newer s.target t.target → Tells r new newer
+          → Walking ps ss x y old newer (changed || r) all after_s after_t
+      walking_both eq together newer r m tells = record {
+        of_x = next_x.rest;
+        of_y = next_y.rest;
+        walked = subst₂ (λ (k l : ℕ). Walked ps ss x y old newer (changed || r) all k l) (sym next_x.at) (sym next_y.at)
+            (walked_both ps ss ordered x y old new changed all i j w.walked next_x.within next_y.within (name_s ∙ eq ∙ sym name_t) x_in y_in together newer r
+            (subst₂ (λ (p q : ℕ). Merges new newer p q) (sym target_s) (sym target_t) m) tells);
+      }

@@ -2,6 +2,8 @@
 ghost use Rattle.std.specs.Prelude.{◌≡◌, ◌≤◌, length};
 ghost use Rattle.std.specs.List.{range_with_len};
 
+use records::own_numbers;
+
 // Lent links, which are put back when the guard goes. A function makes it as `Links(links)` over its slice parameter, and lends
 // `guard.0` to one function that does the work.
 pub struct Links<'a>(pub &'a mut [u16]);
@@ -11,17 +13,7 @@ impl Drop for Links<'_> {
         requires { length self.0.now ≤ 65536 }
         ensures { self.exit.0.now ≡ range_with_len 0 (length self.entry.0.now) }
     {
-        reset(self.0);
+        own_numbers(self.0);
         let Links(_) = self;
-    }
-}
-
-// Puts each link back to its own number.
-fn reset(links: &mut [u16])
-    requires { length links.old ≤ 65536 }
-    ensures { links.new ≡ range_with_len 0 (length links.old) }
-{
-    for x in 0..links.len() {
-        links[x] = x as u16;
     }
 }

@@ -26,15 +26,6 @@ pub(crate) fn join(links: &mut [u16], x: usize, y: usize) -> bool
 {
     let a = end_of(links, x);
     let b = end_of(links, y);
-    if a < b {
-        let low = links[a];
-        links[b] = low;
-        true
-    } else if b < a {
-        let low = links[b];
-        links[a] = low;
-        true
-    } else {
-        false
-    }
+    links[a.max(b)] = links[a.min(b)];
+    a != b
 }

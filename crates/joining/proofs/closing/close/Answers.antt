@@ -4,15 +4,15 @@ use Rattle.joining.proofs.Growth.{grows_none, grows_then, closed_least}
 use Rattle.joining.proofs.closing.close.Goals as goal
 
 pub loop-ring-init : goal.loop-ring-init
-loop-ring-init g c = (refl, grows_none (Edge c.args.places.now c.args.slots.now) c.args.links.now c.requires.forest)
+loop-ring-init g c = (refl, grows_none (Edge c.args.sides.now.tables.places.now c.args.sides.now.tables.slots.now) c.args.links.now c.requires.forest)
 
 pub loop-ring-preserved : goal.loop-ring-preserved
-loop-ring-preserved g c = (c.pass.auto.ring ∙ c.loop-ring.invariant.0, grows_then (Edge c.args.places.now c.args.slots.now) c.loop-ring.invariant.1 c.pass.ensures.grows)
+loop-ring-preserved g c = (c.pass.auto.ring ∙ c.loop-ring.invariant.0, grows_then (Edge c.args.sides.now.tables.places.now c.args.sides.now.tables.slots.now) c.loop-ring.invariant.1 c.pass.ensures.grows)
 
 pub returns : goal.returns
 returns g c =
-    let grown = grows_then (Edge c.args.places.now c.args.slots.now) c.loop-ring.invariant.1 c.pass.ensures.grows in
+    let grown = grows_then (Edge c.args.sides.now.tables.places.now c.args.sides.now.tables.slots.now) c.loop-ring.invariant.1 c.pass.ensures.grows in
     record {
       forest = grown.forest;
-      least = closed_least (Edge c.args.places.now c.args.slots.now) c.args.links.now c.pass.new.links grown (c.pass.ensures.closed c.loop-ring-test.false);
+      least = closed_least (Edge c.args.sides.now.tables.places.now c.args.sides.now.tables.slots.now) c.args.links.now c.pass.new.links grown (c.pass.ensures.closed c.loop-ring-test.false);
     }

@@ -11,7 +11,7 @@ use Rattle.joining.proofs.closing.follow_ring.Goals as goal
 
 pub loop-y-init : goal.loop-y-init
 loop-y-init g c = (
-  grows_none (Edge c.args.places.now c.args.slots.now) c.args.links.now c.requires.forest,
+  grows_none (Edge c.args.sides.now.tables.places.now c.args.sides.now.tables.slots.now) c.args.links.now c.requires.forest,
   refl,
   omega arith,
   refl,
@@ -22,7 +22,7 @@ pub join_common-common-requires : goal.join_common-common-requires
 join_common-common-requires g c =
     let inv = c.loop-y.invariant in
     record {
-      tables = (c.requires.tables.0, omega (arith, c.requires.tables.1.0));
+      room = omega (arith, c.requires.room.0);
       forest = inv.0.forest;
       within = (c.requires.within, omega (arith, inv.2));
       together = inv.0.keeps _ _ (inv.3 ∙ c.requires.rings.joined c.loop-y.y (omega (arith, inv.2)));
@@ -32,7 +32,7 @@ pub loop-y-preserved : goal.loop-y-preserved
 loop-y-preserved g c =
     let inv = c.loop-y.invariant in
     let step = c.join_common-common in (
-      grows_then (Edge c.args.places.now c.args.slots.now) inv.0 step.ensures.grows,
+      grows_then (Edge c.args.sides.now.tables.places.now c.args.sides.now.tables.slots.now) inv.0 step.ensures.grows,
       tells_then c.loop-y.changed step.result.changed c.args.links.now c.loop-y.links step.new.links inv.1 step.ensures.tells,
       omega (arith, inv.2),
       inv.3 ∙ c.requires.rings.joined c.loop-y.y (omega (arith, inv.2)),
@@ -40,9 +40,9 @@ loop-y-preserved g c =
           let parts = or_parts c.loop-y.changed step.result.changed e in
           let same : c.loop-y.links ≡ step.new.links = sym (still step.result.changed c.loop-y.links step.new.links step.ensures.tells parts.1) in
           along c.args.links.now c.args.ring.now c.requires.forest (c.args.x + 1) whole
-          (Agree (Edge c.args.places.now c.args.slots.now) step.new.links c.args.x) c.args.x c.loop-y.y
+          (Agree (Edge c.args.sides.now.tables.places.now c.args.sides.now.tables.slots.now) step.new.links c.args.x) c.args.x c.loop-y.y
           (omega (arith, inv.2)) inv.3 c.loop-y-test.true
-          (λ z l u s. subst (λ (ls : List ℕ). Agree (Edge c.args.places.now c.args.slots.now) ls c.args.x z) same (inv.4 parts.0 whole z l u s))
+          (λ z l u s. subst (λ (ls : List ℕ). Agree (Edge c.args.sides.now.tables.places.now c.args.sides.now.tables.slots.now) ls c.args.x z) same (inv.4 parts.0 whole z l u s))
           (λ _. step.ensures.agree),
     )
 
@@ -54,7 +54,7 @@ returns g c =
       agree = λ e whole _ z l s.
           let same : c.loop-y.links ≡ c.args.links.now = still c.loop-y.changed c.args.links.now c.loop-y.links inv.1 e in
           at_last c.args.links.now c.args.ring.now c.requires.forest (c.args.x + 1) whole
-          (Agree (Edge c.args.places.now c.args.slots.now) c.loop-y.links c.args.x) c.args.x c.loop-y.y
+          (Agree (Edge c.args.sides.now.tables.places.now c.args.sides.now.tables.slots.now) c.loop-y.links c.args.x) c.args.x c.loop-y.y
           (omega (arith, inv.2)) inv.3 (omega (arith, c.loop-y-test.false)) (inv.4 e whole)
           z l (subst (λ (ls : List ℕ). Same ls c.args.x z) same s) s;
       tells = inv.1;
@@ -65,16 +65,16 @@ returns-then-common g c =
     let inv = c.loop-y.invariant in
     let step = c.join_common-common in
     let y : ℕ = next c.args.ring.now c.loop-y.y in
-    let grown = grows_then (Edge c.args.places.now c.args.slots.now) inv.0 step.ensures.grows in
+    let grown = grows_then (Edge c.args.sides.now.tables.places.now c.args.sides.now.tables.slots.now) inv.0 step.ensures.grows in
     let told = tells_then c.loop-y.changed step.result.changed c.args.links.now c.loop-y.links step.new.links inv.1 step.ensures.tells in
     record {
       grows = grown;
       agree = λ e whole below.
           let same : c.args.links.now ≡ step.new.links =
           sym (still (c.loop-y.changed || step.result.changed) c.args.links.now step.new.links told e) in
-          covered_agree c.args.places.now c.args.slots.now c.requires.tables.0 0 0 c.args.links.now step.new.links c.args.x y
+          covered_agree c.args.sides.now.tables.places.now c.args.sides.now.tables.slots.now c.args.sides.now.ordered 0 0 c.args.links.now step.new.links c.args.x y
           (omega (arith, inv.2)) (step.ensures.covers c.if-common.true)
           (grown.keeps c.args.x y (inv.3 ∙ c.requires.rings.joined c.loop-y.y (omega (arith, inv.2)))) step.ensures.agree
-          (subst (λ (ls : List ℕ). AgreeBelow (Edge c.args.places.now c.args.slots.now) ls c.args.x) same below);
+          (subst (λ (ls : List ℕ). AgreeBelow (Edge c.args.sides.now.tables.places.now c.args.sides.now.tables.slots.now) ls c.args.x) same below);
       tells = told;
     }

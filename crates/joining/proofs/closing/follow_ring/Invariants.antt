@@ -7,10 +7,10 @@ use Rattle.joining.proofs.closing.follow_ring.Given as goal
 
 abbrev pub invariant-loop-y : goal.invariant-loop-y
 invariant-loop-y g l =
-    Grows (Edge l.places l.slots) l.initial.links l.links × Tells l.changed l.initial.links l.links
+    Grows (Edge l.sides.tables.places.now l.sides.tables.slots.now) l.initial.links l.links × Tells l.changed l.initial.links l.links
     × (l.y ≤ l.x) × Same l.initial.links l.x l.y
     × (l.changed ≡ false → Whole l.initial.links l.ring (l.x + 1)
-    → (z : ℕ) → l.y ≤ z → z < l.x → Same l.initial.links l.x z → Agree (Edge l.places l.slots) l.links l.x z)
+    → (z : ℕ) → l.y ≤ z → z < l.x → Same l.initial.links l.x z → Agree (Edge l.sides.tables.places.now l.sides.tables.slots.now) l.links l.x z)
 
 abbrev pub decreases-loop-y : goal.decreases-loop-y
 decreases-loop-y g l = l.y

@@ -1,80 +1,80 @@
-use Rattle.std.proofs.Common.{ℕ, ◌<◌, true, false, leb, length, sym, subst₂, inl, inr, arith}
-use Rattle.std.proofs.lemmas.Bool.{and_parts, leb-true}
-use Rattle.joining.proofs.Walks.{Walked, walked_none, walked_all, walked_covers, walked_left, walked_right, walked_both}
+use Rattle.std.proofs.Common.{rules, ◌≡◌, ◌<◌, true, false, ◌⊎◌, List, ◌∷◌, length, sym, ◌∙◌, subst₂, inl, inr, arith}
+use Rattle.std.proofs.lemmas.Bool.{and_parts, eqb-true}
+use Rattle.records.specs.declared.SlotRecord.{SlotRecord}
+use Rattle.joining.proofs.Walks.{Walking, walking_none, walking_all, walking_covers, leads_in, walking_left, walking_right, walking_both}
 use Rattle.joining.proofs.closing.join_common.Goals as goal
-use Rattle.joining.proofs.closing.join_common.Goals.{then-loop-i-test+else-j-j_end, else-loop-i-test}
+use Rattle.joining.proofs.closing.join_common.Goals.{in_default, in_default-2}
 
-pub loop-i-init : goal.loop-i-init
-loop-i-init g c = (
-  c.past_slot-i_end.ensures,
-  c.past_slot-j_end.ensures,
-  subst₂ (λ (i j : ℕ). Walked c.args.places.now c.args.slots.now c.args.x c.args.y c.args.links.now c.args.links.now false true i j)
-      (sym c.first_slot-i.ensures) (sym c.first_slot-j.ensures)
-      (walked_none c.args.places.now c.args.slots.now c.requires.tables.0 c.args.x c.args.y c.args.links.now c.requires.forest),
-)
+pub loop-s-init : goal.loop-s-init
+loop-s-init g c =
+    let ps = c.args.sides.now.tables.places.now in
+    let ss = c.args.sides.now.tables.slots.now in
+    subst₂ (λ (l r : List SlotRecord). Walking ps ss c.args.x c.args.y c.args.links.now c.args.links.now false true l r)
+    (sym c.slots_of-left.ensures) (sym c.slots_of-right.ensures) (walking_none ps ss c.args.sides.now.ordered c.args.x c.args.y c.requires.within.0 c.requires.within.1
+    c.args.links.now c.requires.forest)
 
-pub overflow_add-i : goal.overflow_add-i
-overflow_add-i g c = omega (arith, c.loop-i-test.true, c.past_slot-i_end.type_inv)
+pub join-changed-requires-clause-within : goal.join-changed-requires-clause-within
+join-changed-requires-clause-within g c =
+    let ps = c.args.sides.now.tables.places.now in
+    let ss = c.args.sides.now.tables.slots.now in
+    let s = c.in-Some-Some.s.now in
+    let t = c.in-Some-Some.t.now in
+    let is_s : c.loop-s.left.now ≡ s ∷ c.in-Some-Some.after_s.now = search rules in
+    let is_t : c.loop-s.right.now ≡ t ∷ c.in-Some-Some.after_t.now = search rules in
+    let targets = leads_in ps ss c.args.sides.now.ordered c.args.x c.args.y c.requires.within.0 c.requires.within.1 c.args.links.now c.loop-s.links c.loop-s.changed c.loop-s.all
+    c.loop-s.left.now c.loop-s.right.now c.loop-s.invariant s t _ _ is_s is_t in
+    (omega (arith, targets.0), omega (arith, targets.1))
 
-pub loop-i-preserved-then-s-t : goal.loop-i-preserved-then-s-t
-loop-i-preserved-then-s-t g c = (
-  c.loop-i.invariant.0,
-  c.loop-i.invariant.1,
-  walked_left c.args.places.now c.args.slots.now c.requires.tables.0 c.args.x c.args.y c.args.links.now
-      c.loop-i.links c.loop-i.changed c.loop-i.all c.loop-i.i c.loop-i.j c.loop-i.invariant.2
-      (omega (arith, c.loop-i-test.true, c.loop-i.invariant.0)) (omega (arith, c.if-j-j_end.true, c.loop-i.invariant.1)) c.if-s-t.true,
-)
+pub loop-s-preserved-in-Less : goal.loop-s-preserved-in-Less
+loop-s-preserved-in-Less g c =
+    let ps = c.args.sides.now.tables.places.now in
+    let ss = c.args.sides.now.tables.slots.now in
+    let s = c.in-Some-Some.s.now in
+    let t = c.in-Some-Some.t.now in
+    let is_s : c.loop-s.left.now ≡ s ∷ c.in-Some-Some.after_s.now = search rules in
+    let is_t : c.loop-s.right.now ≡ t ∷ c.in-Some-Some.after_t.now = search rules in
+    let less : s.name < t.name = search rules in
+    walking_left ps ss c.args.sides.now.ordered c.args.x c.args.y c.requires.within.0 c.requires.within.1 c.args.links.now c.loop-s.links c.loop-s.changed c.loop-s.all
+    c.loop-s.left.now c.loop-s.right.now c.loop-s.invariant s t _ _ is_s is_t less
 
-pub loop-i-preserved-then-t-s : goal.loop-i-preserved-then-t-s
-loop-i-preserved-then-t-s g c = (
-  c.loop-i.invariant.0,
-  c.loop-i.invariant.1,
-  walked_right c.args.places.now c.args.slots.now c.requires.tables.0 c.args.x c.args.y c.args.links.now
-      c.loop-i.links c.loop-i.changed c.loop-i.all c.loop-i.i c.loop-i.j c.loop-i.invariant.2
-      (omega (arith, c.loop-i-test.true, c.loop-i.invariant.0)) (omega (arith, c.if-j-j_end.true, c.loop-i.invariant.1)) c.if-t-s.true,
-)
+pub loop-s-preserved-in-Greater : goal.loop-s-preserved-in-Greater
+loop-s-preserved-in-Greater g c =
+    let ps = c.args.sides.now.tables.places.now in
+    let ss = c.args.sides.now.tables.slots.now in
+    let s = c.in-Some-Some.s.now in
+    let t = c.in-Some-Some.t.now in
+    let is_s : c.loop-s.left.now ≡ s ∷ c.in-Some-Some.after_s.now = search rules in
+    let is_t : c.loop-s.right.now ≡ t ∷ c.in-Some-Some.after_t.now = search rules in
+    let more : t.name < s.name = search rules in
+    walking_right ps ss c.args.sides.now.ordered c.args.x c.args.y c.requires.within.0 c.requires.within.1 c.args.links.now c.loop-s.links c.loop-s.changed c.loop-s.all
+    c.loop-s.left.now c.loop-s.right.now c.loop-s.invariant s t _ _ is_s is_t more
 
-pub join-changed-requires : goal.join-changed-requires
-join-changed-requires g c =
-    let i_in : c.loop-i.i < length c.args.slots.now = omega (arith, c.loop-i-test.true, c.loop-i.invariant.0, c.requires.tables.0.inside c.args.x c.requires.within.0) in
-    let j_in : c.loop-i.j < length c.args.slots.now = omega (arith, c.if-j-j_end.true, c.loop-i.invariant.1, c.requires.tables.0.inside c.args.y c.requires.within.1) in
-    record {
-      forest = c.loop-i.invariant.2.grows.forest;
-      within = (
-        omega (arith, c.requires.tables.0.leading c.loop-i.i i_in, c.requires.tables.1, c.loop-i.auto.links),
-        omega (arith, c.requires.tables.0.leading c.loop-i.j j_in, c.requires.tables.1, c.loop-i.auto.links),
-      );
-    }
-
-pub overflow_add-i-else-t-s : goal.overflow_add-i-else-t-s
-overflow_add-i-else-t-s g c = omega (arith, c.loop-i-test.true, c.past_slot-i_end.type_inv)
-
-pub loop-i-preserved : goal.loop-i-preserved
-loop-i-preserved g c = (
-  c.loop-i.invariant.0,
-  c.loop-i.invariant.1,
-  walked_both c.args.places.now c.args.slots.now c.requires.tables.0 c.args.x c.args.y c.args.links.now
-      c.loop-i.links c.loop-i.changed c.loop-i.all c.loop-i.i c.loop-i.j c.loop-i.invariant.2
-      (omega (arith, c.loop-i-test.true, c.loop-i.invariant.0)) (omega (arith, c.if-j-j_end.true, c.loop-i.invariant.1))
-      (omega (arith, c.if-s-t.false, c.if-t-s.false)) c.requires.within.0 c.requires.within.1 c.requires.together c.join-changed.new.links c.join-changed.result
-      c.join-changed.ensures.merges c.join-changed.ensures.tells,
-)
+pub loop-s-preserved : goal.loop-s-preserved
+loop-s-preserved g c =
+    let ps = c.args.sides.now.tables.places.now in
+    let ss = c.args.sides.now.tables.slots.now in
+    let s = c.in-Some-Some.s.now in
+    let t = c.in-Some-Some.t.now in
+    let is_s : c.loop-s.left.now ≡ s ∷ c.in-Some-Some.after_s.now = search rules in
+    let is_t : c.loop-s.right.now ≡ t ∷ c.in-Some-Some.after_t.now = search rules in
+    let same : s.name ≡ t.name = search rules in
+    walking_both ps ss c.args.sides.now.ordered c.args.x c.args.y c.requires.within.0 c.requires.within.1 c.args.links.now c.loop-s.links c.loop-s.changed c.loop-s.all
+    c.loop-s.left.now c.loop-s.right.now c.loop-s.invariant s t _ _ is_s is_t same c.requires.together c.join-changed.new.links c.join-changed.result c.join-changed.ensures.merges c.join-changed.ensures.tells
 
 pub returns : goal.returns
 returns g c =
-    let inv = c.loop-i.invariant in
+    let ps = c.args.sides.now.tables.places.now in
+    let ss = c.args.sides.now.tables.slots.now in
+    let w = c.loop-s.invariant in
+    let ended : (length c.loop-s.left.now ≡ 0) ⊎ (length c.loop-s.right.now ≡ 0) =
+    elim c.match-split_first.branch [ in_default w ↦ inr (search rules) | in_default-2 w ↦ inl (search rules) ] in
     record {
-      grows = inv.2.grows;
-      agree = walked_all c.args.places.now c.args.slots.now c.requires.tables.0 c.args.x c.args.y c.args.links.now
-          c.loop-i.links c.loop-i.changed c.loop-i.all c.loop-i.i c.loop-i.j inv.2
-          (elim c.loop-i-test.branch [
-            | then-loop-i-test+else-j-j_end w ↦ inr (omega (arith, w.if-j-j_end.false, inv.1))
-            | else-loop-i-test w ↦ inl (omega (arith, w.loop-i-test.false, inv.0))
-          ]);
-      tells = inv.2.tells;
+      grows = w.walked.grows;
+      agree = walking_all ps ss c.args.sides.now.ordered c.args.x c.args.y c.requires.within.0 c.requires.within.1 c.args.links.now c.loop-s.links c.loop-s.changed
+          c.loop-s.all c.loop-s.left.now c.loop-s.right.now w ended;
+      tells = w.walked.tells;
       covers = λ t.
-          let parts = and_parts c.loop-i.all (leb c.past_slot-i_end.result c.loop-i.i) t in
-          walked_covers c.args.places.now c.args.slots.now c.requires.tables.0 c.args.x c.args.y c.args.links.now
-          c.loop-i.links c.loop-i.changed c.loop-i.all c.loop-i.i c.loop-i.j inv.2
-          (omega (arith, inv.0, leb-true c.past_slot-i_end.result c.loop-i.i parts.1)) parts.0;
+          let parts = and_parts c.loop-s.all c.is_empty-all.result t in
+          walking_covers ps ss c.args.sides.now.ordered c.args.x c.args.y c.requires.within.0 c.requires.within.1 c.args.links.now c.loop-s.links c.loop-s.changed
+          c.loop-s.all c.loop-s.left.now c.loop-s.right.now w (eqb-true (length c.loop-s.left.now) 0 (sym c.is_empty-all.ensures ∙ parts.1)) parts.0;
     }

@@ -10,11 +10,11 @@ use Rattle.joining.proofs.closing.pass.Goals as goal
 
 pub loop-x-init : goal.loop-x-init
 loop-x-init g c = (
-  grows_none (Edge c.args.places.now c.args.slots.now) c.args.links.now c.requires.forest,
+  grows_none (Edge c.args.sides.now.tables.places.now c.args.sides.now.tables.slots.now) c.args.links.now c.requires.forest,
   refl,
   rings_none c.args.links.now c.args.ring.now,
   λ _. whole_none c.args.links.now c.args.ring.now,
-  λ _. below_none (λ (k : ℕ). (i : ℕ) → i < k → Agree (Edge c.args.places.now c.args.slots.now) c.args.links.now k i),
+  λ _. below_none (λ (k : ℕ). (i : ℕ) → i < k → Agree (Edge c.args.sides.now.tables.places.now c.args.sides.now.tables.slots.now) c.args.links.now k i),
 )
 
 pub put-requires : goal.put-requires
@@ -23,8 +23,8 @@ put-requires g c =
     record {
       forest = inv.0.forest;
       within = (
-        omega (arith, c.loop-x-test.true, c.requires.tables.1.0),
-        (omega (arith, c.loop-x-test.true, c.requires.tables.1.1.0), omega (arith, c.requires.tables.1.1.1)),
+        omega (arith, c.loop-x-test.true, c.requires.room.0),
+        (omega (arith, c.loop-x-test.true, c.requires.room.1.0), omega (arith, c.requires.room.1.1)),
       );
       rings = inv.2;
     }
@@ -33,7 +33,7 @@ pub follow_ring-changed-requires : goal.follow_ring-changed-requires
 follow_ring-changed-requires g c =
     let inv = c.loop-x.invariant in
     record {
-      tables = (c.requires.tables.0, (omega (arith, c.requires.tables.1.0), omega (arith, c.requires.tables.1.1.0)));
+      room = (omega (arith, c.requires.room.0), omega (arith, c.requires.room.1.0));
       forest = inv.0.forest;
       within = c.loop-x-test.true;
       rings = c.put.ensures.rings;
@@ -43,7 +43,7 @@ pub loop-x-preserved : goal.loop-x-preserved
 loop-x-preserved g c =
     let inv = c.loop-x.invariant in
     let step = c.follow_ring-changed in (
-      grows_then (Edge c.args.places.now c.args.slots.now) inv.0 step.ensures.grows,
+      grows_then (Edge c.args.sides.now.tables.places.now c.args.sides.now.tables.slots.now) inv.0 step.ensures.grows,
       tells_then c.loop-x.changed step.result c.args.links.now c.loop-x.links step.new.links inv.1 step.ensures.tells,
       rings_grow c.loop-x.links step.new.links c.put.new.ring (c.loop-x.x + 1) step.ensures.grows.keeps c.put.ensures.rings,
       λ e.
@@ -51,7 +51,7 @@ loop-x-preserved g c =
           subst (λ (ls : List ℕ). Whole ls c.put.new.ring (c.loop-x.x + 1))
           (sym (still step.result c.loop-x.links step.new.links step.ensures.tells parts.1))
           (c.put.ensures.whole (inv.3 parts.0)),
-      quiet_more (λ (ls : List ℕ) (k : ℕ). (i : ℕ) → i < k → Agree (Edge c.args.places.now c.args.slots.now) ls k i)
+      quiet_more (λ (ls : List ℕ) (k : ℕ). (i : ℕ) → i < k → Agree (Edge c.args.sides.now.tables.places.now c.args.sides.now.tables.slots.now) ls k i)
           c.loop-x.changed step.result c.loop-x.links step.new.links c.loop-x.x step.ensures.tells inv.4
           (λ a b. step.ensures.agree b (c.put.ensures.whole (inv.3 a)) (inv.4 a)),
     )
@@ -61,6 +61,6 @@ returns g c =
     let inv = c.loop-x.invariant in
     record {
       grows = inv.0;
-      closed = λ e. closed_all c.args.places.now c.args.slots.now c.requires.tables.0 0 0 c.args.links.now c.loop-x.links (λ k l. inv.4 e k (omega (arith, c.loop-x-test.false)));
+      closed = λ e. closed_all c.args.sides.now.tables.places.now c.args.sides.now.tables.slots.now c.args.sides.now.ordered 0 0 c.args.links.now c.loop-x.links (λ k l. inv.4 e k (omega (arith, c.loop-x-test.false)));
       tells = inv.1;
     }

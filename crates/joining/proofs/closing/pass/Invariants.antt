@@ -7,6 +7,6 @@ use Rattle.joining.proofs.closing.pass.Given as goal
 
 abbrev pub invariant-loop-x : goal.invariant-loop-x
 invariant-loop-x g l =
-    Grows (Edge l.places l.slots) l.initial.links l.links × Tells l.changed l.initial.links l.links × Rings l.links l.ring l.x
+    Grows (Edge l.sides.tables.places.now l.sides.tables.slots.now) l.initial.links l.links × Tells l.changed l.initial.links l.links × Rings l.links l.ring l.x
     × (l.changed ≡ false → Whole l.links l.ring l.x)
-    × (l.changed ≡ false → (k : ℕ) → k < l.x → (i : ℕ) → i < k → Agree (Edge l.places l.slots) l.links k i)
+    × (l.changed ≡ false → (k : ℕ) → k < l.x → (i : ℕ) → i < k → Agree (Edge l.sides.tables.places.now l.sides.tables.slots.now) l.links k i)
