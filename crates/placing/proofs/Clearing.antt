@@ -1,17 +1,9 @@
 -- What blanking leaves of tables that were written to.
-use Rattle.std.proofs.Common.{◌≡◌, ℕ, ◌+◌, ◌-◌, ◌≤◌, min, List, ◌++◌, length, take, drop, replicate, sym, ap, ◌∙◌, ⊎_elim, arith}
-use Rattle.std.proofs.lemmas.List.{append_assoc, drop_all, drop-drop, take_at, length-take-le}
-use Rattle.std.proofs.lemmas.Bool.{cases_lt}
+use Rattle.std.proofs.Common.{◌≡◌, ℕ, ◌+◌, ◌-◌, ◌≤◌, min, List, ◌++◌, length, take, drop, replicate, sym, ap, ◌∙◌, arith}
+use Rattle.std.proofs.lemmas.List.{append_assoc, drop-drop, take_at, length-take-le}
 use Rattle.placing.specs.Reading.{ReadInto, worked}
 
 module _ {A : Type 0} where
-  -- past the limit, or past a shorter table
-  pub drop_least : (most : ℕ) (xs : List A) → drop (min most (length xs)) xs ≡ drop most xs
-  drop_least most xs =
-      ⊎_elim (λ lt. let e : min most (length xs) ≡ most = omega arith in ap (λ n. drop n xs) e)
-      (λ ge. drop_all (min most (length xs)) xs (omega arith) ∙ sym (drop_all most xs ge))
-      (cases_lt most (length xs))
-
   -- what is kept from one number on is kept from a later one on
   pub drop_later : (n m : ℕ) (xs ys : List A) → n ≤ m → drop n xs ≡ drop n ys → drop m xs ≡ drop m ys
   drop_later n m xs ys le e =

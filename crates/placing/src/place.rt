@@ -95,13 +95,10 @@ fn counts_read(read: Result<Counts, ReadFault>) -> Counts
     ensures places { result.places ≡ places_read read }
     ensures slots { result.slots ≡ slots_read read }
 {
-    match read {
-        Ok(counts) => counts,
-        Err(_) => Counts {
-            places: 0,
-            slots: 0,
-        },
-    }
+    read.unwrap_or(Counts {
+        places: 0,
+        slots: 0,
+    })
 }
 
 // Reads a line as `read_place` does, with a table for the slots of its draft.
