@@ -1,7 +1,7 @@
 -- What stands next stands on the line, from where it was looked for on.
-use Rattle.std.proofs.Common.{◌≡◌, ℕ, ◌+◌, ◌<◌, ◌≤◌, true, false, eqb, leb, List, [], ◌∷◌, length, get_or, take, drop, ℤ, Some, None, Option, sym, ap, ◌∙◌, subst, ⊎_elim, arith, length-drop}
+use Rattle.std.proofs.Common.{◌≡◌, ℕ, ◌+◌, ◌<◌, ◌≤◌, true, false, eqb, leb, List, [], ◌∷◌, length, get_or, take, drop, ℤ, Some, None, Option, sym, subst, ⊎_elim, arith, length-drop}
 use Rattle.std.specs.Int.{is_in_range}
-use Rattle.std.proofs.lemmas.List.{drop_more, drop_all, at_drop_more, at_drop_all}
+use Rattle.std.proofs.lemmas.List.{drop_more, drop_all}
 use Rattle.std.proofs.lemmas.List.Sums.{prefix_len-le-length}
 use Rattle.std.proofs.lemmas.Bool.{cond_both, cond-true, cases_lt, eqb-true, or_left}
 use Rattle.tokens.specs.declared.token.class.Class.{Class}
@@ -31,7 +31,7 @@ token_ahead b bs i =
     P : Next → Type 0
     P = Ahead i (i + 1 + length bs)
 
-weaker : (lo hi lo₂ hi₂ : ℕ) (n : Next) → lo₂ ≤ lo → hi ≤ hi₂ → Ahead lo hi n → Ahead lo₂ hi₂ n
+pub weaker : (lo hi lo₂ hi₂ : ℕ) (n : Next) → lo₂ ≤ lo → hi ≤ hi₂ → Ahead lo hi n → Ahead lo₂ hi₂ n
 weaker lo hi lo₂ hi₂ finish p q a = tt
 weaker lo hi lo₂ hi₂ (token x i j) p q a = omega arith
 weaker lo hi lo₂ hi₂ (refusal n b) p q a = omega arith
@@ -46,16 +46,6 @@ next_ahead line from = go (after_spaces line from) (omega arith)
         (weaker s (s + 1 + length (drop (s + 1) line)) from (length line) _ le (omega (arith, length-drop (s + 1) line)) (token_ahead (get_or line s 0) (drop (s + 1) line) s)))
         (λ ge. subst (λ l. Ahead from (length line) (first_token l s)) (sym (drop_all s line ge)) tt)
         (cases_lt s (length line))
-
-module _ (line : List ℕ) (from s : ℕ) (spaces : s ≡ after_spaces line from) where
-  pub next_finish : length line ≤ s → next_token line from ≡ finish
-  next_finish ge = ap (λ k. first_token (drop k line) k) (sym spaces) ∙ at_drop_all (λ l. first_token l s) line s ge
-
-  pub next_begins : s < length line → next_token line from ≡ token_at (get_or line s 0) (drop (s + 1) line) s
-  next_begins lt = ap (λ k. first_token (drop k line) k) (sym spaces) ∙ at_drop_more (λ l. first_token l s) line s 0 lt
-
-  pub next_is : (n : Next) → s < length line → n ≡ token_at (get_or line s 0) (drop (s + 1) line) s → (n ≡ next_token line from) × Ahead from (length line) n
-  next_is n lt e = let f = e ∙ sym (next_begins lt) in (f, subst (Ahead from (length line)) (sym f) (next_ahead line from))
 
 pub at_ahead : (line : List ℕ) (s : ℕ) (n : Next) → s < length line → n ≡ token_at (get_or line s 0) (drop (s + 1) line) s → Ahead s (length line) n
 at_ahead line s n lt e =

@@ -1,9 +1,9 @@
 -- What is written is read: the bytes of a word or of a number, with a byte after them that does not go on with it.
-use Rattle.std.proofs.Common.{◌≡◌, ℕ, zero, suc, ◌+◌, ◌-◌, ◌*◌, ◌^◌, ◌<◌, ◌≤◌, Bool, true, false, not, ◌&&◌, eqb, leb, List, [], ◌∷◌, ◌++◌, length, get_or, take, ℤ, pos, negsuc, neg_ℤ, Some, decimal, fold, refl, ap, ◌∙◌, arith, rules}
+use Rattle.std.proofs.Common.{subst, inl, inr, ◌≡◌, ℕ, zero, suc, ◌+◌, ◌-◌, ◌*◌, ◌^◌, ◌<◌, ◌≤◌, Bool, true, false, not, ◌&&◌, eqb, leb, List, [], ◌∷◌, ◌++◌, length, get_or, take, ℤ, pos, negsuc, neg_ℤ, Some, decimal, fold, refl, ap, ◌∙◌, arith, rules}
 use Rattle.std.specs.Char.{is_ascii_digit}
 use Rattle.std.specs.Str.{all_ascii_digits}
 use Rattle.std.proofs.lemmas.List.{take_at}
-use Rattle.std.proofs.lemmas.Bool.{cond-true, cond-false, and_parts, and_from, le-leb, ne_eqb, or_left}
+use Rattle.std.proofs.lemmas.Bool.{cases_Bool, cond-true, cond-false, and_parts, and_from, le-leb, ne_eqb, or_left}
 use Rattle.std.proofs.lemmas.Str.Parse.{IsNumeralModel, numerals_by_fold, tells_all_ascii_digits}
 use Rattle.std.proofs.lemmas.Fmt.{digits_decimal, digits_value-decimal, decimal_nonempty, first_decimal, decimal_digit}
 use Rattle.tokens.specs.declared.token.class.Class.{Class}
@@ -32,12 +32,22 @@ word_back w rest i h short e =
     (λ k. token (word (take (r k) (w ++ rest))) i (i + r k)) ∙
     ap (λ l. token (word l) i (i + length w)) (take_at w rest (length w) refl)
 
-own : IsNumeralModel (λ ds. all_ascii_digits ds ≡ true) value
+pub own : IsNumeralModel (λ ds. all_ascii_digits ds ≡ true) value
 own = numerals_by_fold _ tells_all_ascii_digits (λ n ds. fold (λ n d. n * 10 + (d - 48)) n ds) (search rules)
 
 digits_in : (ds : List ℕ) → all_ascii_digits ds ≡ true → all_in Digit ds ≡ true
 digits_in [] h = refl
 digits_in (d ∷ ds) h = let p = and_parts (is_ascii_digit d) (all_ascii_digits ds) h in and_from (member Digit d) (all_in Digit ds) p.0 (digits_in ds p.1)
+
+-- the bytes of a run of digits are digits
+pub digits_run : (bs : List ℕ) → all_ascii_digits (take (run Digit bs) bs) ≡ true
+digits_run [] = refl
+digits_run (b ∷ bs) =
+    let more : suc (run Digit bs) ≡ 1 + run Digit bs = omega arith in
+    elim (cases_Bool (member Digit b)) [
+      | inl t ↦ simp t (subst (λ n. all_ascii_digits (take n (b ∷ bs)) ≡ true) more (and_from (is_ascii_digit b) (all_ascii_digits (take (run Digit bs) bs)) t (digits_run bs)))
+      | inr f ↦ simp f
+    ]
 
 pub digits_written : (n : ℕ) → n < 2 ^ 64 → all_ascii_digits (decimal n) ≡ true
 digits_written n h = digits_decimal own n h

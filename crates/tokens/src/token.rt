@@ -58,11 +58,10 @@ fn number_at<'a>(
     requires { first ≤ length line.now }
     ensures { answer_at start result ≡ number_at minus (drop first line.now) start first }
 {
-    let end = Class::Digit.run_end(line, first);
-    match number_of(minus, &line[first..end]) {
-        Some(n) => Ok((Token::Number(n), end)),
-        None => Err(TextFault::WrongNumber(start)),
-    }
+    let rest = &line[first..];
+    let count = Class::Digit.run(rest);
+    let number = number_of(minus, &rest[..count]).ok_or(TextFault::WrongNumber(start))?;
+    Ok((Token::Number(number), first + count))
 }
 
 // The word that begins at `start`, and the place after it.
@@ -70,11 +69,12 @@ fn word_at<'a>(line: &'a [u8], start: usize) -> Result<(Token<'a>, usize), TextF
     requires { start ≤ length line.now }
     ensures { answer_at start result ≡ word_at (drop start line.now) start }
 {
-    let end = Class::WordByte.run_end(line, start);
-    if end - start > WORD_LIMIT {
+    let rest = &line[start..];
+    let count = Class::WordByte.run(rest);
+    if count > WORD_LIMIT {
         return Err(TextFault::LongWord(start));
     }
-    Ok((Token::Word(&line[start..end]), end))
+    Ok((Token::Word(&rest[..count]), start + count))
 }
 
 // The token that begins at `start`, and the place after it.
@@ -82,24 +82,18 @@ fn token_at<'a>(line: &'a [u8], start: usize) -> Result<(Token<'a>, usize), Text
     requires { start < length line.now }
     ensures { answer_at start result ≡ token_at (slice_index line.now start) (drop (start + 1) line.now) start }
 {
-    let mark = match line[start] as char {
-        '(' => Token::RoundOpen,
-        ')' => Token::RoundClose,
-        '[' => Token::SquareOpen,
-        ']' => Token::SquareClose,
-        '#' => Token::Hash,
-        '.' => {
-            if start + 1 < line.len() && line[start + 1] == b'.' {
-                return Ok((Token::Dots, start + 2));
-            }
-            return Err(TextFault::NoToken(start));
-        }
-        '-' => return number_at(line, true, start, start + 1),
-        '0'..='9' => return number_at(line, false, start, start),
-        'a'..='z' => return word_at(line, start),
-        _ => return Err(TextFault::NoToken(start)),
-    };
-    Ok((mark, start + 1))
+    match line[start] {
+        b'(' => Ok((Token::RoundOpen, start + 1)),
+        b')' => Ok((Token::RoundClose, start + 1)),
+        b'[' => Ok((Token::SquareOpen, start + 1)),
+        b']' => Ok((Token::SquareClose, start + 1)),
+        b'#' => Ok((Token::Hash, start + 1)),
+        b'.' if line.get(start + 1) == Some(&b'.') => Ok((Token::Dots, start + 2)),
+        b'-' => number_at(line, true, start, start + 1),
+        b'0'..=b'9' => number_at(line, false, start, start),
+        b'a'..=b'z' => word_at(line, start),
+        _ => Err(TextFault::NoToken(start)),
+    }
 }
 
 // The token that stands next on the line from `from` on; none at the line's end.
@@ -108,8 +102,11 @@ pub fn next_token<'a>(line: &'a [u8], from: usize) -> Result<Option<Lexeme<'a>>,
     ensures bytes { Shows line.now result }
     ensures ahead { Ahead from (length line.now) (answer result) }
 {
-    let start = Class::Space.run_end(line, from);
-    if start >= line.len() {
+    let Some(rest) = line.get(from..) else {
+        return Ok(None);
+    };
+    let start = from + Class::Space.run(rest);
+    if start == line.len() {
         return Ok(None);
     }
     let (token, end) = token_at(line, start)?;

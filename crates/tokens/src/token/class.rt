@@ -1,5 +1,5 @@
 // The bytes that a run is made of.
-ghost use Rattle.std.specs.Prelude.{◌≡◌, ◌+◌, ◌≤◌, length, drop};
+ghost use Rattle.std.specs.Prelude.{◌≡◌, ◌≤◌, length};
 ghost use Rattle.tokens.specs.Tokens.{member, run};
 
 #[derive(Clone, Copy)]
@@ -20,16 +20,11 @@ impl Class {
         }
     }
 
-    // The place after the run that begins at `from`.
-    pub fn run_end(self, line: &[u8], from: usize) -> usize
-        ensures value { result ≡ from + run self (drop from line.now) }
-        ensures after { from ≤ result }
-        ensures within { from ≤ length line.now → result ≤ length line.now }
+    // How many of the first bytes are of the class.
+    pub fn run(self, bytes: &[u8]) -> usize
+        ensures value { result ≡ run self bytes.now }
+        ensures within { result ≤ length bytes.now }
     {
-        let mut end = from;
-        while end < line.len() && self.has(line[end]) {
-            end += 1;
-        }
-        end
+        bytes.iter().take_while(|byte| self.has(**byte)).count()
     }
 }

@@ -1,32 +1,42 @@
 // The numbers that digits write.
-ghost use Rattle.std.specs.Prelude.{◌≡◌, min};
-ghost use Rattle.tokens.specs.Tokens.{value, number_of};
+ghost use Rattle.std.specs.Prelude.{◌≡◌, ◌^◌, ◌<◌, true, length};
+ghost use Rattle.std.specs.Option.{SomeIff};
+ghost use Rattle.std.specs.Str.{all_ascii_digits};
+ghost use Rattle.tokens.specs.Tokens.{value, well_formed, number_of};
 
-// A number past all that a token can have.
-const CAP: u64 = 4_294_967_296;
+use std::str;
 
-// The number that digits write, or CAP where it is no less.
-fn magnitude(digits: &[u8]) -> u64
-    ensures { result ≡ min (value digits.now) 4294967296 }
+// Whether there is a digit, and no zero first: `0` alone may be one.
+fn well_formed(minus: bool, digits: &[u8]) -> bool
+    ensures { result ≡ well_formed minus digits.now }
 {
-    let mut sum: u64 = 0;
-    for digit in digits {
-        sum = (sum * 10 + u64::from(digit.saturating_sub(b'0'))).min(CAP);
+    match digits {
+        [] => false,
+        [b'0', rest @ ..] => !minus && rest.is_empty(),
+        _ => true,
     }
-    sum
+}
+
+// The number that digits write, if there is a digit and the number fits 32 bits.
+fn magnitude(digits: &[u8]) -> Option<u32>
+    requires { all_ascii_digits digits.now ≡ true }
+    ensures { SomeIff result ((0 < length digits.now) × (value digits.now < 2 ^ 32)) (value digits.now) }
+{
+    str::from_utf8(digits).ok()?.parse().ok()
 }
 
 // The number that a sign and digits write, if their form and range are right.
-pub fn number_of(minus: bool, digits: &[u8]) -> Option<i32>
+pub(super) fn number_of(minus: bool, digits: &[u8]) -> Option<i32>
+    requires { all_ascii_digits digits.now ≡ true }
     ensures { result ≡ number_of minus digits.now }
 {
-    if digits.is_empty() || (digits[0] == b'0' && (minus || digits.len() > 1)) {
+    if !well_formed(minus, digits) {
         return None;
     }
-    let size = magnitude(digits);
-    match minus {
-        true if size <= 2_147_483_648 => Some(-(size as i64) as i32),
-        false if size <= 2_147_483_647 => Some(size as i32),
-        _ => None,
+    let size = magnitude(digits)?;
+    if minus {
+        0i32.checked_sub_unsigned(size)
+    } else {
+        i32::try_from(size).ok()
     }
 }
