@@ -1,3 +1,3 @@
-pub mod Naming
+pub mod Mapping
 pub mod Owning
 pub mod Back
