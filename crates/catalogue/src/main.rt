@@ -13,28 +13,20 @@ use std::io;
 fn meet_word(first: Catalogue, second: Catalogue) -> &'static str
     ensures { result.now ≡ answer (shared first second) }
 {
-    match first.meet(second) {
-        Some(meet) => meet.word(),
-        None => "none",
-    }
+    first.meet(second).map_or("none", Catalogue::word)
 }
 
 fn print_codes(rt: &HostRuntime) -> io::Result<()> {
     println!(rt; "{:<17}{}", "kind", "code")?;
     for kind in Catalogue::all() {
-        println!(rt; "{:<17}{:02X}", kind.word(), kind.code())?;
+        println!(rt; "{kind:<17}{:02X}", kind.code())?;
     }
     Ok(())
 }
 
 fn print_meets(rt: &HostRuntime, first: Catalogue) -> io::Result<()> {
     for second in Catalogue::all() {
-        println!(rt;
-            "{:<17}{:<17}{}",
-            first.word(),
-            second.word(),
-            meet_word(first, second)
-        )?;
+        println!(rt; "{first:<17}{second:<17}{}", meet_word(first, second))?;
     }
     Ok(())
 }

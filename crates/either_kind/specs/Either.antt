@@ -1,5 +1,5 @@
 -- Either of two types of kind: the order, the meet and the stored form.
-use Rattle.std.specs.Prelude.{ℕ, zero, suc, Bool, true, false, cond, ◌&&◌, ◌⊎◌, Some, None, Option}
+use Rattle.std.specs.Prelude.{ℕ, zero, suc, Bool, true, false, cond, ◌&&◌, ◌⊎◌, List, Some, None, Option}
 use Rattle.std.proofs.Common.{inl, inr}
 use Rattle.std.specs.Option.{option_map}
 use Rattle.kinds.specs.Laws.{KindLaws}
@@ -30,6 +30,12 @@ joint common_p common_q (First a) (Second b) = None
 joint common_p common_q (Second a) Any = Some (Second a)
 joint common_p common_q (Second a) (First b) = None
 joint common_p common_q (Second a) (Second b) = option_map Second (common_q a b)
+
+-- what is printed: a text of its own for any, and else what is printed for the kind of the part
+abbrev pub printed : {P Q : Type 0} → List ℕ → (P → Option (List ℕ)) → (Q → Option (List ℕ)) → Either P Q → Option (List ℕ)
+printed any first second Any = Some any
+printed any first second (First a) = first a
+printed any first second (Second b) = second b
 
 module _ {P F : Type 0} {below_p : P → P → Type 0} {top_p : P} {form_p : P → F} {kind_p : F → Option P} (lp : KindLaws below_p top_p form_p kind_p)
     {Q G : Type 0} {below_q : Q → Q → Type 0} {top_q : Q} {form_q : Q → G} {kind_q : G → Option Q} (lq : KindLaws below_q top_q form_q kind_q) where

@@ -1,5 +1,6 @@
 -- Ranges of whole numbers: when two numbers are the ends of one, inclusion, the common part, and the form in a record.
-use Rattle.std.specs.Prelude.{◌⊎◌, ℤ, pos, negsuc, ◌≤ℤ◌, Ok, Err, Option, Result}
+use Rattle.std.specs.Prelude.{ℕ, ◌⊎◌, List, ◌++◌, ℤ, pos, negsuc, ◌≤ℤ◌, Ok, Err, codes, Option, Result}
+use Rattle.std.specs.Fmt.{signed_decimal}
 use Rattle.std.proofs.Common.{inl, inr}
 use Rattle.std.specs.Int.Signed.{le_z_yes, clash_ℤ}
 use Rattle.std.proofs.lemmas.Int.{by_lt_z}
@@ -44,3 +45,7 @@ form_of r = record { low = r.low; high = r.high }
 
 abbrev pub range_of : RangeForm → Option Range
 range_of f = result_ok (made f.low f.high)
+
+-- the text of a range: its ends in base ten with two dots between, in square brackets
+abbrev pub text : Range → List ℕ
+text r = codes "[" ++ (signed_decimal r.low ++ (codes ".." ++ (signed_decimal r.high ++ codes "]")))

@@ -1,3 +1,2 @@
-pub mod Naming
+pub mod Mapping
 pub mod Owning
-pub mod Back

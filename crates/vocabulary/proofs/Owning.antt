@@ -1,8 +1,10 @@
 -- What a text reads as is the kind that is written so, and no other text reads as that kind.
-use Rattle.std.proofs.Common.{◌≡◌, ℕ, Bool, true, false, cond, List, [], ◌∷◌, ℤ, Some, None, codes, Option, sym, refl, ap, ◌∙◌, arith}
+use Rattle.std.proofs.Common.{◌≡◌, ℕ, true, List, [], ◌∷◌, ℤ, Some, None, codes, Option, IfSome, sym, refl, ap, ◌∙◌, subst}
 use Rattle.std.specs.Option.{option_map}
 use Rattle.std.specs.Result.{result_ok}
 use Rattle.std.specs.Str.{bytes_eq}
+use Rattle.std.proofs.lemmas.Bool.{cond_both}
+use Rattle.std.proofs.lemmas.Option.{none-some}
 use Rattle.std.proofs.lemmas.Slice.Eq.{bytes_eq-Decides}
 use Rattle.kinds.specs.declared.catalogue.Catalogue.{Catalogue}
 use Rattle.kinds.specs.Catalogue as catalogue
@@ -17,43 +19,42 @@ use Rattle.vocabulary.specs.Alone.{named}
 use Rattle.vocabulary.specs.Orders.{order_words, order_ranges, order_texts, KindOf}
 use Rattle.vocabulary.specs.OrdersLaws.{orders_laws}
 
-none≢some : {X Y : Type 0} (x : X) → ◌≡◌ {A = Option X} None (Some x) → Y
-none≢some x e = let z : ◌≡◌ {A = ℕ} 0 1 = cc in absurd (omega arith)
+-- o is none, or a kind that is written t
+abbrev Written : Text → Option (Either Catalogue Range) → Type 0
+Written t o = IfSome o (λ k. order_texts k ≡ t)
 
-image : {X Y : Type 0} (f : X → Y) (o : Option X) (m : Y) → option_map f o ≡ Some m → (x : X) × ((o ≡ Some x) × (f x ≡ m))
-image f (Some x) m e = (x, (refl, cc))
-image f None m e = none≢some m e
+-- it is written t if what it is made of is
+part : {X : Type 0} (t : Text) (f : X → Either Catalogue Range) (o : Option X) → IfSome o (λ x. order_texts (f x) ≡ t) → Written t (option_map f o)
+part t f (Some x) h = h
+part t f None h = tt
 
-named_own : (w : List ℕ) (ks : List Catalogue) (k : Catalogue) → named w ks ≡ Some k → catalogue.word k ≡ w
+same : (w v : List ℕ) → bytes_eq w v ≡ true → word v ≡ word w
+same w v h = ap word (sym ((bytes_eq-Decides w v).0 h))
+
+named_own : (w : List ℕ) (ks : List Catalogue) → IfSome (named w ks) (λ k. word (catalogue.word k) ≡ word w)
 unfolding named
-named_own w [] k e = none≢some k e
-named_own w (j ∷ js) k e = go (bytes_eq w (catalogue.word j)) refl e (λ f. named_own w js k f)
-  where
-    go : (b : Bool) → bytes_eq w (catalogue.word j) ≡ b → cond b (Some j) (named w js) ≡ Some k → (named w js ≡ Some k → catalogue.word k ≡ w) → catalogue.word k ≡ w
-    go true h f rest = let g : j ≡ k = cc in ap catalogue.word (sym g) ∙ sym ((bytes_eq-Decides w (catalogue.word j)).0 h)
-    go false h f rest = rest f
+named_own w [] = tt
+named_own w (k ∷ ks) =
+    cond_both (bytes_eq w (catalogue.word k)) (Some k) (named w ks) (λ o. IfSome o (λ j. word (catalogue.word j) ≡ word w)) (same w (catalogue.word k)) (λ h. named_own w ks)
 
-words_own : (w : List ℕ) (k : Either Catalogue Range) → order_words w ≡ Some k → order_texts k ≡ word w
+words_own : (w : List ℕ) → Written (word w) (order_words w)
 unfolding order_words
-words_own w k e = go (bytes_eq w (codes "any")) refl e
+words_own w =
+    cond_both (bytes_eq w (codes "any")) (Some Any) (option_map First (named w catalogue.listed)) (Written (word w)) (same w (codes "any"))
+    (λ h. part (word w) First (named w catalogue.listed) (named_own w catalogue.listed))
+
+ranges_own : (low high : ℤ) → Written (range low high) (order_ranges low high)
+ranges_own low high = part (range low high) Second (result_ok (made low high)) (go (result_ok (made low high)) refl)
   where
-    go : (b : Bool) → bytes_eq w (codes "any") ≡ b → cond b (Some Any) (option_map First (named w catalogue.listed)) ≡ Some k → order_texts k ≡ word w
-    go true h f = let g : Any ≡ k = cc in ap order_texts (sym g) ∙ ap word (sym ((bytes_eq-Decides w (codes "any")).0 h))
-    go false h f =
-        let t = image First (named w catalogue.listed) k f in
-        ap order_texts (sym t.1.1) ∙ ap word (named_own w catalogue.listed t.0 t.1.0)
+    go : (o : Option Range) → result_ok (made low high) ≡ o → IfSome o (λ r. order_texts (Second r) ≡ range low high)
+    go (Some r) e = ap (λ (f : RangeForm). range f.low f.high) (range_laws.own (record { low = low; high = high }) r e)
+    go None e = tt
 
-ranges_own : (low high : ℤ) (k : Either Catalogue Range) → order_ranges low high ≡ Some k → order_texts k ≡ range low high
-ranges_own low high k e =
-    let t = image Second (result_ok (made low high)) k e in
-    let f = range_laws.own (record { low = low; high = high }) t.0 t.1.0 in
-    ap order_texts (sym t.1.1) ∙ ap (λ (f : RangeForm). range f.low f.high) f
-
-own : (t : Text) (k : Either Catalogue Range) → reading order_words order_ranges t ≡ Some k → order_texts k ≡ t
-own (word w) k e = words_own w k e
-own (range low high) k e = ranges_own low high k e
+own : (t : Text) → Written t (reading order_words order_ranges t)
+own (word w) = words_own w
+own (range low high) = ranges_own low high
 
 -- what a text reads as is the kind that is written so
 pub kind_of : (t : Text) (o : Option (Either Catalogue Range)) → o ≡ reading order_words order_ranges t → KindOf t o
-kind_of t (Some k) e = own t k (sym e)
-kind_of t None e = λ k f. none≢some k (e ∙ ap (reading order_words order_ranges) (sym f) ∙ orders_laws.reads k)
+kind_of t (Some k) e = subst (Written t) (sym e) (own t)
+kind_of t None e = λ k f. none-some k (e ∙ ap (reading order_words order_ranges) (sym f) ∙ orders_laws.reads k)

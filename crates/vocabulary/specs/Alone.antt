@@ -1,5 +1,6 @@
 -- The vocabularies of the catalogue alone and of ranges alone.
-use Rattle.std.specs.Prelude.{ℕ, cond, List, [], ◌∷◌, ℤ, Some, None, codes, Option}
+use Rattle.std.specs.Prelude.{ℕ, cond, List, ℤ, Some, None, codes, Option}
+use Rattle.std.specs.List.{find}
 use Rattle.std.specs.Result.{result_ok}
 use Rattle.std.specs.Str.{bytes_eq}
 use Rattle.kinds.specs.declared.catalogue.Catalogue.{Catalogue}
@@ -11,8 +12,7 @@ use Rattle.vocabulary.specs.Texts.{Text, word, range}
 
 -- the kind of the list that has this word, and none where no kind of it has
 unfoldable pub named : List ℕ → List Catalogue → Option Catalogue
-named w [] = None
-named w (k ∷ ks) = cond (bytes_eq w (catalogue.word k)) (Some k) (named w ks)
+named w ks = find (λ k. bytes_eq w (catalogue.word k)) ks
 
 -- the catalogue alone: `any` is its greatest kind, its sixteen words are its kinds, and no other word is a kind
 unfoldable pub catalogue_words : List ℕ → Option Catalogue

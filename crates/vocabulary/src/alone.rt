@@ -19,6 +19,7 @@ impl Vocabulary<Catalogue> for CatalogueAlone {
 
     ghost laws = { catalogue_laws };
 
+    #[tactic(auto, unfolding(crate::specs::Alone::catalogue_words))]
     fn word(word: &[u8]) -> Option<Catalogue> {
         if is_any(word) {
             return Some(Catalogue::Thing);
@@ -46,11 +47,9 @@ impl Vocabulary<Range> for RangesAlone {
 
     ghost laws = { range_laws };
 
+    #[tactic(auto, unfolding(crate::specs::Alone::range_words))]
     fn word(word: &[u8]) -> Option<Range> {
-        if !is_any(word) {
-            return None;
-        }
-        Some(Range::greatest())
+        is_any(word).then_some(Range::greatest())
     }
 
     fn range(low: i32, high: i32) -> Option<Range> {

@@ -5,8 +5,9 @@ ghost use Rattle.vocabulary.specs.Texts as written;
 ghost use Rattle.vocabulary.specs.Orders.{order_words, order_ranges, order_texts, KindOf};
 ghost use Rattle.vocabulary.specs.OrdersLaws.{orders_laws};
 
+use crate::alone::{CatalogueAlone, RangesAlone};
 use crate::vocabulary::{KindText, Vocabulary};
-use crate::words::{catalogued, is_any};
+use crate::words::is_any;
 use either_kind::either::Either;
 use kinds::catalogue::Catalogue;
 use ranges::range::Range;
@@ -22,6 +23,7 @@ impl Vocabulary<Either<Catalogue, Range>> for Orders {
 
     ghost laws = { orders_laws };
 
+    #[tactic(auto, unfolding(crate::specs::Orders::order_words, crate::specs::Alone::catalogue_words))]
     fn word(word: &[u8]) -> Option<Either<Catalogue, Range>>
         ensures value { result ≡ order_words word.now }
         ensures any { word.now ≡ codes "any" → result ≡ Some Any }
@@ -30,27 +32,21 @@ impl Vocabulary<Either<Catalogue, Range>> for Orders {
         if is_any(word) {
             return Some(Either::Any);
         }
-        match catalogued(word) {
-            Some(kind) => Some(Either::First(kind)),
-            None => None,
-        }
+        CatalogueAlone::word(word).map(Either::First)
     }
 
     fn range(low: i32, high: i32) -> Option<Either<Catalogue, Range>>
         ensures value { result ≡ order_ranges low high }
         ensures own { KindOf (written.range low high) result }
     {
-        match Range::new(low, high) {
-            Ok(range) => Some(Either::Second(range)),
-            Err(_) => None,
-        }
+        RangesAlone::range(low, high).map(Either::Second)
     }
 
     fn text(kind: Either<Catalogue, Range>) -> KindText {
         match kind {
             Either::Any => KindText::Word(b"any"),
-            Either::First(kind) => KindText::Word(kind.word().as_bytes()),
-            Either::Second(range) => KindText::Range(range.low(), range.high()),
+            Either::First(kind) => CatalogueAlone::text(kind),
+            Either::Second(range) => RangesAlone::text(range),
         }
     }
 }

@@ -16,10 +16,7 @@ pub(crate) fn is_any(word: &[u8]) -> bool
 pub(crate) fn catalogued(word: &[u8]) -> Option<Catalogue>
     ensures { result ≡ named word.now listed }
 {
-    for kind in Catalogue::all() {
-        if word == kind.word().as_bytes() {
-            return Some(kind);
-        }
-    }
-    None
+    Catalogue::all()
+        .into_iter()
+        .find(|kind| word == kind.word().as_bytes())
 }

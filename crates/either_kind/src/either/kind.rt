@@ -1,18 +1,32 @@
 // Either of two types of kind as a type of kind: each part keeps its order and its meet, and a kind of the first type has
 // nothing in common with one of the second.
-ghost use Rattle.std.specs.Prelude.{◌≡◌};
-ghost use Rattle.either_kind.specs.Either.{Under, joint, form_of, kind_of, unused};
+ghost use Rattle.std.specs.Prelude.{◌≡◌, codes};
+ghost use Rattle.either_kind.specs.Either.{Under, joint, form_of, kind_of, unused, printed};
 ghost use Rattle.either_kind.specs.EitherLaws.{either_laws, either_meets};
 ghost use Rattle.either_kind.specs.declared.either.Either.TheVariants.{Any};
 
 use crate::either::{Either, EitherForm};
 use kinds::kind::Kind;
+use std::fmt;
 
 // Whether this is the form of the greatest kind, as a part that is not in use has it.
 fn is_unused<K: Kind>(stored: K::Form) -> bool
     ensures { result ≡ unused K.Kind.laws stored }
 {
     K::read(stored).is_some_and(|kind| K::greatest().at_or_below(kind))
+}
+
+// Printed is `any`, or the kind of the part as that part is printed.
+impl<P: fmt::Display, Q: fmt::Display> fmt::Display for Either<P, Q> {
+    ghost output = { printed (codes "any") P.Display.output Q.Display.output };
+
+    fn fmt<W: fmt::Write>(&self, f: &mut fmt::Formatter<W>) -> fmt::Result {
+        match self {
+            Either::Any => f.pad("any"),
+            Either::First(kind) => kind.fmt(f),
+            Either::Second(kind) => kind.fmt(f),
+        }
+    }
 }
 
 impl<P: Kind, Q: Kind> Kind for Either<P, Q> {

@@ -1,5 +1,6 @@
 // The kinds of the catalogue: their codes and words, and the catalogue as a type of kind.
-ghost use Rattle.std.specs.Prelude.{◌≡◌};
+ghost use Rattle.std.specs.Prelude.{◌≡◌, Some};
+ghost use Rattle.std.specs.Fmt.{padded};
 ghost use Rattle.kinds.specs.Catalogue.{Within, listed, index, code, word, kind_at, shared, MeetRule};
 ghost use Rattle.kinds.specs.CatalogueLaws.{catalogue_laws, catalogue_meets};
 ghost use Rattle.kinds.specs.declared.catalogue.Catalogue.TheVariants.{Thing};
@@ -7,6 +8,7 @@ ghost use Rattle.kinds.specs.declared.catalogue.Catalogue.TheVariants.{Thing};
 use crate::catalogue::Catalogue;
 use crate::catalogue::meets::{MEETS, look_up};
 use crate::kind::Kind;
+use std::fmt;
 
 // The kinds in the catalogue's order; the stored form of each is its number in this list.
 const KINDS: [Catalogue; 16] = [
@@ -88,6 +90,17 @@ impl Catalogue {
             Catalogue::Headstock => "headstock",
             Catalogue::Tune => "tune",
         }
+    }
+}
+
+// A kind is printed as its word.
+impl fmt::Display for Catalogue {
+    ghost output = { λ kind. Some (word kind) };
+
+    ghost styled_output = { λ kind spec. Some (padded spec (word kind)) };
+
+    fn fmt<W: fmt::Write>(&self, f: &mut fmt::Formatter<W>) -> fmt::Result {
+        f.pad(self.word())
     }
 }
 

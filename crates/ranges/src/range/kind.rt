@@ -1,10 +1,11 @@
 // Ranges as a type of kind: the order is inclusion, and the meet is the common part.
-ghost use Rattle.std.specs.Prelude.{◌≡◌};
-ghost use Rattle.ranges.specs.Ranges.{Inside, widest, made, overlap, form_of, range_of};
+ghost use Rattle.std.specs.Prelude.{◌≡◌, Some};
+ghost use Rattle.ranges.specs.Ranges.{Inside, widest, made, overlap, form_of, range_of, text};
 ghost use Rattle.ranges.specs.RangeLaws.{range_laws, range_meets};
 
 use crate::range::{Range, RangeForm};
 use kinds::kind::Kind;
+use std::fmt;
 
 impl Range {
     // The range from `low` to `high`. Where `low` is above `high` there is none, and the refusal hands both numbers back.
@@ -50,6 +51,15 @@ impl From<Range> for RangeForm {
             low: range.low,
             high: range.high,
         }
+    }
+}
+
+// A range is printed as sheets spell it, [LOW..HIGH].
+impl fmt::Display for Range {
+    ghost output = { λ range. Some (text range) };
+
+    fn fmt<W: fmt::Write>(&self, f: &mut fmt::Formatter<W>) -> fmt::Result {
+        write!(f, "[{}..{}]", self.low, self.high)
     }
 }
 

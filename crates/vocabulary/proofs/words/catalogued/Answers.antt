@@ -1,27 +1,19 @@
-use Rattle.std.proofs.Common.{length, sym, ap, ◌∙◌, arith}
-use Rattle.std.proofs.lemmas.Slice.Eq.{slice_eq-Decides}
-use Rattle.std.proofs.lemmas.Bool.{both_ways}
+use Rattle.std.proofs.Common.{◌≡◌, sym, ap, ◌∙◌, rules, tests}
+use Rattle.std.specs.Str.{bytes_eq}
+use Rattle.std.specs.Array.Iter.{array_steps, array_into_iter_items}
+use Rattle.std.proofs.lemmas.Iterator.Adapters.{option_map_id}
+use Rattle.std.proofs.lemmas.Iterator.Consumers.{YieldsList-from_shown}
+use Rattle.std.proofs.lemmas.Iterator.Search.{find_from_yields_List}
+use Rattle.kinds.specs.Catalogue as catalogue
 use Rattle.vocabulary.specs.Alone.{named}
-use Rattle.vocabulary.proofs.Naming.{named_here, named_on, named_past}
 use Rattle.vocabulary.proofs.words.catalogued.Goals as goal
-use Rattle.std.proofs.lemmas.Bool.Decides.{Decides-eqb}
-
-pub loop-kind-preserved : goal.loop-kind-preserved
-loop-kind-preserved c =
-    let sixteen = ap length c.all-kind-items.ensures in
-    sym (named_on c.args.word.now c.all-kind-items.result c.loop-kind.kind-index (omega arith)
-    (λ e. both_ways c.eq.result c.if-eq.false ((slice_eq-Decides Decides-eqb _ _ _ c.eq.ensures).1 (e ∙ sym (c.as_bytes.ensures.value ∙ c.word.ensures))))) ∙
-    c.loop-kind.invariant
-
-pub returns-then-eq : goal.returns-then-eq
-returns-then-eq c =
-    let sixteen = ap length c.all-kind-items.ensures in
-    sym (named_here c.args.word.now c.all-kind-items.result c.loop-kind.kind-index (omega arith)
-    ((slice_eq-Decides Decides-eqb _ _ _ c.eq.ensures).0 c.if-eq.true ∙ c.as_bytes.ensures.value ∙ c.word.ensures)) ∙
-    c.loop-kind.invariant ∙ ap (named c.args.word.now) c.all-kind-items.ensures
 
 pub returns : goal.returns
+unfolding named
 returns c =
-    let sixteen = ap length c.all-kind-items.ensures in
-    sym (named_past c.args.word.now c.all-kind-items.result c.loop-kind.kind-index (omega arith)) ∙
-    c.loop-kind.invariant ∙ ap (named c.args.word.now) c.all-kind-items.ensures
+    let items : array_into_iter_items c.into_iter.result ≡ c.all.result = c.into_iter.ensures.into_iter_gives.0 in
+    sym (option_map_id c.find.result)
+    ∙ find_from_yields_List (λ k. bytes_eq c.args.word.now (catalogue.word k)) _ _ _ c.find.ensures.ran
+    (YieldsList-from_shown array_steps (λ x. x) array_into_iter_items (λ t u h. h.0) (λ t x u h. h) _)
+    (λ x b q k. search (rules, tests))
+    ∙ ap (named c.args.word.now) (items ∙ c.all.ensures)
