@@ -10,7 +10,7 @@ use joining::{Links, end_of, join_roots};
 use kinds::kind::Kind;
 use meets::meet_classes;
 use numbering::{LIMIT, number};
-use records::{Counts, PlaceRecord, SlotRecord};
+use records::{Counts, PlaceRecord, SlotRecord, Tables};
 
 // Writes the end of each place.
 fn flatten(links: &[u16], ends: &mut [u16])
@@ -43,9 +43,17 @@ pub(crate) fn unite<K: Kind>(
     ensures links { links.new ≡ range_with_len 0 (length links.old) }
 {
     let guard = Links(links);
-    join_roots(work_places, work_slots, guard.0, second);
+    let sides = Tables {
+        places: work_places,
+        slots: work_slots,
+    };
+    join_roots(sides, guard.0, second);
     let mut ends = [0u16; LIMIT];
     flatten(guard.0, &mut ends);
     meet_classes::<K>(work_places, &ends).ok()?;
-    Some(number(work_places, work_slots, &ends, places, slots))
+    let merged = Tables {
+        places: work_places,
+        slots: work_slots,
+    };
+    Some(number(merged, &ends, places, slots))
 }
