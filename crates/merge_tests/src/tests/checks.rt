@@ -1,7 +1,7 @@
 // The check of a table.
-use super::drawings::{A, B, Drawing, bundle, chain, place, slot};
+use super::drawings::{A, B, Drawing, alone, bundle, chain, counts, place, slot};
 use kinds::catalogue::Catalogue;
-use records::{Counts, PlaceRecord, SlotRecord};
+use records::{Counts, PlaceRecord, SlotRecord, Tables};
 use sheets::fault::SheetFault;
 use sheets::sheet::Sheet;
 use std::process::Abort;
@@ -14,7 +14,7 @@ fn checked<'a>(
     slot_count: usize,
 ) -> Result<(), SheetFault> {
     let mut sheet: Sheet<'_, Catalogue> = Sheet::empty();
-    sheet.check(places, slots, place_count, slot_count)
+    sheet.check(Tables { places, slots }, counts(place_count, slot_count))
 }
 
 // A place of any kind.
@@ -88,13 +88,13 @@ fn a_refused_check_leaves_the_sheet(rt: HostRuntime) -> Result<(), Fail> {
     let wrong = [place(Catalogue::Tune, 1, 0)];
     let mut sheet: Sheet<'_, Catalogue> = Sheet::empty();
     assert_eq!(rt;
-        sheet.check(&wrong, &[], 1, 0),
+        sheet.check(alone(&wrong), counts(1, 0)),
         Err(SheetFault::WrongCounts)
     );
     assert!(rt; sheet.is_empty());
-    sheet.check(&bell, &[], 1, 0)?;
+    sheet.check(alone(&bell), counts(1, 0))?;
     assert_eq!(rt;
-        sheet.check(&wrong, &[], 1, 0),
+        sheet.check(alone(&wrong), counts(1, 0)),
         Err(SheetFault::WrongCounts)
     );
     assert_eq!(rt; sheet.places(), &bell[..]);

@@ -1,7 +1,7 @@
 // Tables of sheets with kinds of the catalogue, drawn by hand or by rule.
 use kinds::catalogue::Catalogue;
 use kinds::kind::Kind;
-use records::{Counts, PlaceRecord, SlotRecord};
+use records::{Counts, PlaceRecord, SlotRecord, Tables};
 use std::alloc::{AllocError, Global};
 
 // The numbers of the names `a` and `b`.
@@ -28,12 +28,32 @@ impl Drawing {
         })
     }
 
+    pub fn tables(&self) -> Tables<'_, u8> {
+        Tables {
+            places: &self.places,
+            slots: &self.slots,
+        }
+    }
+
     pub fn counts(&self) -> Counts {
         Counts {
             places: self.places.len(),
             slots: self.slots.len(),
         }
     }
+}
+
+// The tables of a sheet of one place.
+pub fn alone(place: &[PlaceRecord<u8>; 1]) -> Tables<'_, u8> {
+    Tables {
+        places: place,
+        slots: &[],
+    }
+}
+
+// How many places and slots are counted.
+pub fn counts(places: usize, slots: usize) -> Counts {
+    Counts { places, slots }
 }
 
 pub fn place(kind: Catalogue, before: u16, count: u16) -> PlaceRecord<u8> {

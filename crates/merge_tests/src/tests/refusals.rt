@@ -1,12 +1,12 @@
 // The refusals of an add and the order in which they are looked for; paths.
-use super::drawings::{A, B, Drawing, chain, place, slot};
+use super::drawings::{A, B, Drawing, alone, chain, counts, place, slot};
 use super::standing::{check_merge, check_refused};
 use faults::Fault;
 use jobs::fault::JobFault;
 use jobs::{Job, job_over};
 use kinds::catalogue::Catalogue;
 use kinds::kind::Kind;
-use records::{Counts, PlaceRecord, SlotRecord};
+use records::{Counts, PlaceRecord, SlotRecord, Tables};
 use sheets::fault::SheetFault;
 use sheets::sheet::Sheet;
 use std::fmt::Debug;
@@ -56,10 +56,10 @@ fn answer<'a>(
     );
     job.open();
     let mut first = Sheet::empty();
-    first.check(&bell, &[], 1, 0)?;
+    first.check(alone(&bell), counts(1, 0))?;
     let _ = job.add(&[], &first);
     let mut sheet = Sheet::empty();
-    let _ = sheet.check(places, slots, place_count, slots.len());
+    let _ = sheet.check(Tables { places, slots }, counts(place_count, slots.len()));
     job.add(path, &sheet)
 }
 
@@ -148,7 +148,7 @@ fn a_job_that_was_never_opened_has_no_room(rt: HostRuntime) -> Result<(), Fail> 
         &mut [],
         &mut []
     );
-    sheet.check(&bell, &[], 1, 0)?;
+    sheet.check(alone(&bell), counts(1, 0))?;
     assert_eq!(rt; job.add(&[], &sheet), Err(JobFault::NoRoom));
     Ok(())
 }

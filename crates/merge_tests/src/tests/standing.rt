@@ -68,19 +68,9 @@ fn add_both<'a>(
         shelf_slots
     );
     job.open();
-    sheet.check(
-        &first.places,
-        &first.slots,
-        first.places.len(),
-        first.slots.len(),
-    )?;
+    sheet.check(first.tables(), first.counts())?;
     job.add(&[], &sheet)?;
-    sheet.check(
-        &other.places,
-        &other.slots,
-        other.places.len(),
-        other.slots.len(),
-    )?;
+    sheet.check(other.tables(), other.counts())?;
     job.add(path, &sheet)
 }
 

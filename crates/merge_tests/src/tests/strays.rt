@@ -1,11 +1,11 @@
 // Kinds of the either of catalogue and range, and stored forms that are no kind's.
-use super::drawings::{A, B, slot};
+use super::drawings::{A, B, counts, slot};
 use either_kind::either::{Either, EitherForm};
 use jobs::{Job, job_over};
 use kinds::catalogue::Catalogue;
 use kinds::kind::Kind;
 use ranges::range::{Range, RangeForm};
-use records::{PlaceRecord, SlotRecord};
+use records::{PlaceRecord, SlotRecord, Tables};
 use sheets::sheet::Sheet;
 use std::fmt::Debug;
 use std::process::Abort;
@@ -58,6 +58,7 @@ fn merged(
     let mut work_places = [old; 6];
     let mut work_slots = [slot(9, 9); 4];
     let mut links = [9u16; 6];
+    let all = counts(3, 2);
     let mut sheet = Sheet::empty();
     let mut job: Job<'_, Either<Catalogue, Range>> = job_over!(
         &mut places,
@@ -69,9 +70,21 @@ fn merged(
         &mut []
     );
     job.open();
-    sheet.check(&first, &slots, 3, 2)?;
+    sheet.check(
+        Tables {
+            places: &first,
+            slots: &slots,
+        },
+        all,
+    )?;
     job.add(&[], &sheet)?;
-    sheet.check(&other, &slots, 3, 2)?;
+    sheet.check(
+        Tables {
+            places: &other,
+            slots: &slots,
+        },
+        all,
+    )?;
     job.add(&[], &sheet)?;
     Ok(places)
 }
