@@ -3,13 +3,14 @@
 use Rattle.std.specs.Prelude.{◌≡◌, ℕ, zero, suc, Bool, true, false, cond, ◌&&◌, ◌⊎◌, Some, None, Option, refl}
 use Rattle.std.proofs.Common.{inl, inr, sym, ap, subst, ◌∙◌, arith}
 use Rattle.std.specs.Option.{option_map}
+use Rattle.std.proofs.lemmas.Option.{none-some}
 use Rattle.kinds.specs.Laws.{KindLaws, MeetLaws}
 use Rattle.either_kind.specs.declared.either.Either.{Either}
 use Rattle.either_kind.specs.declared.either.Either.TheVariants.{Any, First, Second}
 use Rattle.either_kind.specs.Either.{holds, is_greatest, unused, Under, joint, form_of, by_tag, kind_of}
 
 none≢some : {X Y : Type 0} (x : X) → ◌≡◌ {A = Option X} None (Some x) → Y
-none≢some x e = let z : ◌≡◌ {A = ℕ} 0 1 = cc in absurd (omega arith)
+none≢some x e = absurd (none-some x e)
 
 some≢none : {X Y : Type 0} (x : X) → ◌≡◌ {A = Option X} (Some x) None → Y
 some≢none x e = none≢some x (sym e)

@@ -1,10 +1,10 @@
 -- The laws of the catalogue, shown. (A proof, and nothing that a reader has to believe: it stands here because the trait takes
 -- it as a ghost member.) What holds of all kinds, or of all pairs, is one test that antt computes over the list.
-use Rattle.std.specs.Prelude.{◌≡◌, ℕ, zero, suc, ◌/◌, ◌%◌, ◌<◌, min, Bool, true, false, cond, ◌&&◌, ◌||◌, T, ltb, ◌⊎◌, List, [], ◌∷◌, get_or, is_some, Some, None, Option, ◌==◌, ◌≢◌, bit_and, nat_eq, nat_lt, slice_index_or, refl}
+use Rattle.std.specs.Prelude.{◌≡◌, ℕ, zero, suc, ◌<◌, Bool, true, false, cond, ◌&&◌, ◌||◌, T, ltb, ◌⊎◌, List, [], ◌∷◌, get_or, is_some, Some, None, Option, ◌==◌, ◌≢◌, bit_and, nat_eq, nat_lt, slice_index_or, refl}
 use Rattle.std.proofs.Common.{sym, ap, ◌∙◌, subst, inl, inr, arith, ltb→lt}
-use Rattle.std.proofs.Math.Arith.{bin_ind}
-use Rattle.std.specs.Int.Bits.{and_self, and_step, and_zero_r}
-use Rattle.std.proofs.lemmas.Nat.{and_comm, and_shr}
+use Rattle.std.proofs.Math.Facts.{eqb_yes}
+use Rattle.std.specs.Int.Bits.{and_self, and_zero_r}
+use Rattle.std.proofs.lemmas.Nat.{and_comm, and_assoc}
 use Rattle.std.proofs.lemmas.Bool.{eqb-true, ltb-true, cases_eq}
 use Rattle.std.specs.Option.{unwrap_or}
 use Rattle.kinds.specs.declared.catalogue.Catalogue.{Catalogue}
@@ -14,7 +14,7 @@ use Rattle.kinds.specs.Catalogue.{listed, code, index, kind_at, Within, MeetRule
 
 -- ---- tests over the whole catalogue
 
-is_true : (b : Bool) → T b → b ≡ true
+pub is_true : (b : Bool) → T b → b ≡ true
 is_true true t = refl
 is_true false t = absurd t
 
@@ -61,24 +61,9 @@ all_kinds f t k = subst (λ (x : Catalogue). T (f x)) (placed k) (every_at f Thi
 pub all_pairs : (f : Catalogue → Catalogue → Bool) → T (every (λ a. every (f a) listed) listed) → (a b : Catalogue) → T (f a b)
 all_pairs f t a b = all_kinds (f a) (all_kinds (λ x. every (f x) listed) t a) b
 
-equal_if : (m n : ℕ) → T (m == n) → m ≡ n
-equal_if m n t = eqb-true m n (is_true (m == n) t)
-
 -- a kind is known by its number
 pub by_index : (a b : Catalogue) → T (index a == index b) → a ≡ b
-by_index a b t = sym (placed a) ∙ ap (λ n. get_or listed n Thing) (equal_if (index a) (index b) t) ∙ placed b
-
--- ---- bits
-
-low_bit : (a b : ℕ) → bit_and a b % 2 ≡ min (a % 2) (b % 2)
-low_bit a b = omega (arith, and_step a b)
-
-and_assoc : (a b c : ℕ) → bit_and (bit_and a b) c ≡ bit_and a (bit_and b c)
-and_assoc = bin_ind (λ (a : ℕ). (b c : ℕ) → bit_and (bit_and a b) c ≡ bit_and a (bit_and b c)) (λ b c. refl) (λ a ih b c.
-    let left : bit_and (bit_and a b / 2) (c / 2) ≡ bit_and (bit_and (a / 2) (b / 2)) (c / 2) = ap (λ x. bit_and x (c / 2)) (and_shr a b 1) in
-    let right : bit_and (a / 2) (bit_and b c / 2) ≡ bit_and (a / 2) (bit_and (b / 2) (c / 2)) = ap (λ x. bit_and (a / 2) x) (and_shr b c 1) in
-    let h = ih (b / 2) (c / 2) in
-    omega (arith, and_step (bit_and a b) c, and_step a (bit_and b c), low_bit a b, low_bit b c, left, right, h))
+by_index a b t = sym (placed a) ∙ ap (λ n. get_or listed n Thing) (eqb_yes t) ∙ placed b
 
 -- ---- the order and the stored form
 
@@ -112,7 +97,7 @@ at_below f (suc n) t k h = by (cases_eq k n) (at_below f n (and_right (f n) (all
     by (inr ne) rest = rest (omega arith)
 
 numbered : (n : ℕ) → n < 16 → index (slice_index_or listed n Thing) ≡ n
-numbered n h = equal_if (index (slice_index_or listed n Thing)) n (at_below (λ m. nat_eq (index (slice_index_or listed m Thing)) m) 16 tt n h)
+numbered n h = eqb_yes (at_below (λ m. nat_eq (index (slice_index_or listed m Thing)) m) 16 tt n h)
 
 form_own : (n : ℕ) (k : Catalogue) → kind_at n ≡ Some k → index k ≡ n
 form_own n k e = go (nat_lt n 16) refl
@@ -130,10 +115,10 @@ form_own n k e = go (nat_lt n 16) refl
 pub catalogue_laws : KindLaws Within Thing index kind_at
 catalogue_laws = record {
   reflexive = λ a. and_self (code a);
-  transitive = λ a b c p q. ap (λ x. bit_and x (code c)) (sym p) ∙ and_assoc (code a) (code b) (code c) ∙ ap (λ x. bit_and (code a) x) q ∙ p;
+  transitive = λ a b c p q. ap (λ x. bit_and x (code c)) (sym p) ∙ and_assoc (code c) (code a) (code b) ∙ ap (λ x. bit_and (code a) x) q ∙ p;
   antisymmetric = within_equal;
   decided = λ a b. cases_eq (bit_and (code a) (code b)) (code a);
-  greatest = λ a. equal_if (bit_and (code a) 0xFF) (code a) (all_kinds (λ x. nat_eq (bit_and (code x) 0xFF) (code x)) tt a);
+  greatest = λ a. eqb_yes (all_kinds (λ x. nat_eq (bit_and (code x) 0xFF) (code x)) tt a);
   reads = form_reads;
   own = form_own;
 }
@@ -158,7 +143,7 @@ closed = all_pairs (λ a b. is_some (shared a b) || bit_and (code a) (code b) ==
 apart : (a b : Catalogue) → shared a b ≡ None → bit_and (code a) (code b) ≡ 0
 apart a b e =
     let t : T (is_some {T = Catalogue} None || bit_and (code a) (code b) == 0) = subst (λ (o : Option Catalogue). T (is_some o || bit_and (code a) (code b) == 0)) e (closed a b) in
-    equal_if (bit_and (code a) (code b)) 0 t
+    eqb_yes t
 
 -- what two kinds share keeps the rule of the meet
 pub shared_rule : (a b : Catalogue) → MeetRule a b (shared a b)
@@ -180,7 +165,7 @@ module _ (a b : Catalogue) where
   shared_left m e =
       let f : code m ≡ bit_and (code a) (code b) = found (bit_and (code a) (code b)) listed m e in
       ap (λ x. bit_and x (code a)) (f ∙ and_comm (code a) (code b))
-      ∙ and_assoc (code b) (code a) (code a)
+      ∙ and_assoc (code a) (code b) (code a)
       ∙ ap (λ x. bit_and (code b) x) (and_self (code a))
       ∙ and_comm (code b) (code a) ∙ sym f
 
@@ -188,13 +173,13 @@ module _ (a b : Catalogue) where
   shared_right m e =
       let f : code m ≡ bit_and (code a) (code b) = found (bit_and (code a) (code b)) listed m e in
       ap (λ x. bit_and x (code b)) f
-      ∙ and_assoc (code a) (code b) (code b)
+      ∙ and_assoc (code b) (code a) (code b)
       ∙ ap (λ x. bit_and (code a) x) (and_self (code b))
       ∙ sym f
 
   -- what is within both is within the bits that both have
   within_both : (c : Catalogue) → Within c a → Within c b → bit_and (code c) (bit_and (code a) (code b)) ≡ code c
-  within_both c p q = sym (and_assoc (code c) (code a) (code b)) ∙ ap (λ x. bit_and x (code b)) p ∙ q
+  within_both c p q = sym (and_assoc (code b) (code c) (code a)) ∙ ap (λ x. bit_and x (code b)) p ∙ q
 
   shared_most : (m c : Catalogue) → shared a b ≡ Some m → Within c a → Within c b → Within c m
   shared_most m c e p q = ap (λ x. bit_and (code c) x) (found (bit_and (code a) (code b)) listed m e) ∙ within_both c p q

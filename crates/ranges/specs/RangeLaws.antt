@@ -1,6 +1,6 @@
 -- The laws of ranges, shown. (A proof, and nothing that a reader has to believe: it stands here because the trait takes it as
 -- a ghost member.)
-use Rattle.std.specs.Prelude.{◌≡◌, ℕ, ◌⊎◌, ℤ, ◌≤ℤ◌, Some, None, Ok, int_le, refl}
+use Rattle.std.specs.Prelude.{◌≡◌, ◌⊎◌, ℤ, ◌≤ℤ◌, Some, None, Ok, int_le, refl}
 use Rattle.std.proofs.Common.{sym, ap, ◌∙◌, inl, inr, arith}
 use mathlib.Core.HLevel.{is_prop→PathP}
 use Rattle.std.proofs.Math.Dec.{T_prop}
@@ -8,6 +8,7 @@ use Rattle.std.specs.Int.Signed.{clash_ℤ}
 use Rattle.std.proofs.lemmas.Int.{ints, clamps, by_lt_z}
 use Rattle.std.specs.Int.{int_max, int_min}
 use Rattle.std.specs.Result.{result_ok}
+use Rattle.std.proofs.lemmas.Option.{none-some}
 use Rattle.kinds.specs.Laws.{KindLaws, MeetLaws}
 use Rattle.ranges.specs.declared.range.Range.{Range}
 use Rattle.ranges.specs.declared.range.RangeForm.{RangeForm}
@@ -36,17 +37,14 @@ made_at l h r p q = sym (made_ok r) ∙ (λ i. made (p i) (q i))
 
 made_if_ends : (l h : ℤ) (d : Ends l h ⊎ (Ends l h → ⊥)) (r : Range) → result_ok (made_if l h d) ≡ Some r → (r.low ≡ l) × (r.high ≡ h)
 made_if_ends l h (inl e) r s = (cc, cc)
-made_if_ends l h (inr out) r s = let z : ◌≡◌ {A = ℕ} 0 1 = cc in absurd (omega arith)
+made_if_ends l h (inr out) r s = absurd (none-some r s)
 
 made_ends : (l h : ℤ) (r : Range) → result_ok (made l h) ≡ Some r → (r.low ≡ l) × (r.high ≡ h)
 made_ends l h r s = made_if_ends l h (ends_decided l h) r s
 
 -- where no range is made, the numbers are not the ends of one
 made_none : (l h : ℤ) → result_ok (made l h) ≡ None → Ends l h → ⊥
-made_none l h n e =
-    let s : result_ok (made l h) ≡ Some (record { low = l; high = h; ends = e }) = ap result_ok (made_ok (record { low = l; high = h; ends = e })) in
-    let z : ◌≡◌ {A = ℕ} 0 1 = cc in
-    omega arith
+made_none l h n e = let r : Range = record { low = l; high = h; ends = e } in none-some r (sym n ∙ ap result_ok (made_ok r))
 
 inside_decided : (a b : Range) → Inside a b ⊎ (Inside a b → ⊥)
 inside_decided a b =

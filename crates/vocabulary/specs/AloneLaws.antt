@@ -1,21 +1,17 @@
 -- The laws of the vocabularies of the catalogue alone and of ranges alone, shown. (A proof, and nothing that a reader has to
 -- believe: it stands here because the trait takes it as a ghost member.) What holds of all sixteen words is one test that antt
 -- computes over the catalogue.
-use Rattle.std.specs.Prelude.{◌≡◌, ℕ, zero, suc, ◌<◌, Bool, true, false, ◌&&◌, ◌||◌, T, List, [], ◌∷◌, length, Some, None, Option, ◌==◌, nat_le, slice_index, refl}
+use Rattle.std.specs.Prelude.{◌≡◌, ℕ, zero, suc, ◌<◌, Bool, true, false, ◌&&◌, ◌||◌, T, List, [], ◌∷◌, length, Some, None, Option, ◌==◌, nat_le, slice_index}
 use Rattle.std.proofs.Common.{inl, inr, ap, arith}
 use Rattle.std.proofs.lemmas.Bool.{and_parts, or_cases, leb-true, eqb-true}
 use Rattle.kinds.specs.declared.catalogue.Catalogue.{Catalogue}
 use Rattle.kinds.specs.Catalogue as catalogue
-use Rattle.kinds.specs.CatalogueLaws.{all_kinds, by_index}
+use Rattle.kinds.specs.CatalogueLaws.{is_true, all_kinds, by_index}
 use Rattle.ranges.specs.declared.range.Range.{Range}
 use Rattle.ranges.specs.RangeLaws as ranges
 use Rattle.names.specs.Names.{Letter, Digit, NameByte}
 use Rattle.vocabulary.specs.Texts.{Word, Ends, VocabularyLaws}
 use Rattle.vocabulary.specs.Alone.{named, catalogue_words, catalogue_ranges, catalogue_texts, range_words, range_ranges, range_texts}
-
-is_true : (b : Bool) → T b → b ≡ true
-is_true true t = refl
-is_true false t = absurd t
 
 -- ---- the test for the words of a line
 

@@ -105,6 +105,7 @@ impl fmt::Display for Catalogue {
 }
 
 impl Kind for Catalogue {
+    // A number and no enum: callers keep the form in their own records, where any number may stand.
     type Form = u8;
 
     ghost below = { Within };
