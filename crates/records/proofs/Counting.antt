@@ -1,6 +1,5 @@
 -- The counts of a table's places, added up, and what stands where in a table that is counted.
-use Rattle.std.proofs.Common.{◌≡◌, ℕ, zero, suc, ◌+◌, ◌<◌, ◌≤◌, List, length, get_or, sym, ap, ◌∙◌, inl, inr, add-one, arith}
-use Rattle.std.proofs.lemmas.List.{get_or-map}
+use Rattle.std.proofs.Common.{◌≡◌, ℕ, zero, suc, ◌+◌, ◌<◌, ◌≤◌, List, length, sym, ap, ◌∙◌, inl, inr, add-one, arith}
 use Rattle.std.proofs.lemmas.Bool.{cases_lt}
 use Rattle.records.specs.declared.PlaceRecord.{PlaceRecord}
 use Rattle.records.specs.declared.SlotRecord.{SlotRecord}
@@ -17,13 +16,6 @@ rises f step i (suc j) h =
     ]
 
 module _ {F : Type 0} (ps : List (PlaceRecord F)) where
-  -- what the record of a place says
-  pub first_read : (p : ℕ) (r : PlaceRecord F) → p < length ps → r ≡ get_or ps p r → first_at ps p ≡ r.before
-  first_read p r h is = get_or-map (λ x. x.before) ps p r 0 h ∙ ap (λ x. x.before) (sym is)
-
-  pub count_read : (p : ℕ) (r : PlaceRecord F) → p < length ps → r ≡ get_or ps p r → count_at ps p ≡ r.count
-  count_read p r h is = get_or-map (λ x. x.count) ps p r 0 h ∙ ap (λ x. x.count) (sym is)
-
   pub sum_more : (p : ℕ) → sum_before ps (p + 1) ≡ sum_before ps p + count_at ps p
   sum_more p = ap (sum_before ps) (add-one p)
 

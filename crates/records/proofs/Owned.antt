@@ -7,19 +7,20 @@ use Rattle.std.proofs.lemmas.Bool.Decides.{Decides-ltb}
 use Rattle.records.specs.declared.PlaceRecord.{PlaceRecord}
 use Rattle.records.specs.declared.SlotRecord.{SlotRecord}
 use Rattle.records.specs.Tables.{first_at, count_at, name_at, target_at, blank_slot}
-use Rattle.records.specs.Checks.{RisingAt}
+use Rattle.records.specs.Checks.{Counted, RisingAt}
+use Rattle.records.proofs.Counting.{to_within}
 
 module _ (ss : List SlotRecord) (from n : ℕ) where
-  pub part_slot : (k : ℕ) → k < n → get_or (take n (drop from ss)) k blank_slot ≡ get_or ss (from + k) blank_slot
+  part_slot : (k : ℕ) → k < n → get_or (take n (drop from ss)) k blank_slot ≡ get_or ss (from + k) blank_slot
   part_slot k h = get_or-take n (drop from ss) k blank_slot h ∙ get_or-drop from ss k blank_slot
 
-  pub part_name : (k : ℕ) → k < n → name_at (take n (drop from ss)) k ≡ name_at ss (from + k)
+  part_name : (k : ℕ) → k < n → name_at (take n (drop from ss)) k ≡ name_at ss (from + k)
   part_name k h = ap (λ s. s.name) (part_slot k h)
 
   pub part_target : (k : ℕ) → k < n → target_at (take n (drop from ss)) k ≡ target_at ss (from + k)
   part_target k h = ap (λ s. s.target) (part_slot k h)
 
-  pub part_length : from + n ≤ length ss → length (take n (drop from ss)) ≡ n
+  part_length : from + n ≤ length ss → length (take n (drop from ss)) ≡ n
   part_length h = omega (arith, length-take n (drop from ss), length-drop from ss)
 
   part_in : (k : ℕ) → k < length (take n (drop from ss)) → (k < n) × (from + k < length ss)
@@ -55,3 +56,12 @@ rising_answer ps ss p false a = (
       let less = rising (from + k) (omega arith) (omega arith) (omega arith) in
       a.2 blank_slot ∙ (Decides-ltb _ _).1 (omega (arith, less, part_name ss from n k (omega arith), part_name ss from n (k + 1) (omega arith), ap (name_at ss) e)),
 )
+
+-- in a table that is counted these are as many as the place counts, and lead where the place's slots do
+module _ {F : Type 0} (ps : List (PlaceRecord F)) (ss : List SlotRecord) (c : Counted ps ss) (p : ℕ) (h : p < length ps) (xs : List SlotRecord)
+    (own : xs ≡ take (count_at ps p) (drop (first_at ps p) ss)) where
+  pub own_length : length xs ≡ count_at ps p
+  own_length = ap length own ∙ part_length ss (first_at ps p) (count_at ps p) (to_within ps ss c p h)
+
+  pub own_target : (k : ℕ) → k < count_at ps p → target_at xs k ≡ target_at ss (first_at ps p + k)
+  own_target k l = ap (λ l. target_at l k) own ∙ part_target ss (first_at ps p) (count_at ps p) k l

@@ -1,52 +1,38 @@
 -- The counts of a table's places, added up, and what stands where in a table that is counted.
-use Rattle.std.proofs.Common.{◌≡◌, ℕ, zero, suc, ◌+◌, ◌-◌, ◌<◌, ◌≤◌, eqb, List, length, get_or, Decides, sym, ap, ◌∙◌, add-one, arith}
+use Rattle.std.proofs.Common.{◌≡◌, ℕ, zero, suc, ◌+◌, ◌-◌, ◌<◌, ◌≤◌, List, length, sym, ap, ◌∙◌, arith}
 use native.Mathlib.Decide.{dec_le, dec_lt}
-use Rattle.std.proofs.lemmas.List.{get_or-map}
-use Rattle.std.proofs.lemmas.Bool.Decides.{Decides-eqb, Decides-like}
 use Rattle.records.specs.declared.PlaceRecord.{PlaceRecord}
 use Rattle.records.specs.declared.SlotRecord.{SlotRecord}
 use Rattle.records.specs.Tables.{first_at, count_at, Owns}
-use Rattle.renumbering.specs.Drafts.{Counted}
-
--- the sum of the counts of the places before p
-abbrev pub sum_before : {F : Type 0} → List (PlaceRecord F) → ℕ → ℕ
-sum_before ps zero = 0
-sum_before ps (suc p) = sum_before ps p + count_at ps p
-
-module _ {F : Type 0} (ps : List (PlaceRecord F)) (p : ℕ) (r : PlaceRecord F) (in' : p < length ps) (is : r ≡ get_or ps p r) where
-  -- what the record of a place says
-  pub first_read : first_at ps p ≡ r.before
-  first_read = get_or-map (λ x. x.before) ps p r 0 in' ∙ ap (λ x. x.before) (sym is)
-
-  pub count_read : count_at ps p ≡ r.count
-  count_read = get_or-map (λ x. x.count) ps p r 0 in' ∙ ap (λ x. x.count) (sym is)
+use Rattle.records.specs.Checks as checks
+use Rattle.records.specs.Checks.{sum_before}
+use Rattle.records.proofs.Counting.{to_within}
+use Rattle.renumbering.specs.Drafts.{Counted, Rising}
 
 module _ {F : Type 0} (ps : List (PlaceRecord F)) (ss : List SlotRecord) where
-  pub sum_more : (p : ℕ) → sum_before ps (p + 1) ≡ sum_before ps p + count_at ps p
-  sum_more p = ap (sum_before ps) (add-one p)
-
-  pub sum_first : Counted ps ss → (p : ℕ) → p < length ps → first_at ps p ≡ sum_before ps p
+  -- a draft counts place by place what the sums of the counts say,
+  sum_first : Counted ps ss → (p : ℕ) → p < length ps → first_at ps p ≡ sum_before ps p
   sum_first c zero h = c.first
   sum_first c (suc p) h = omega (arith, c.running p h, sum_first c p (omega arith))
 
-  module _ (some : 0 < length ps) where
-    sum_last : Counted ps ss → sum_before ps (length ps) ≡ length ss
-    sum_last c =
-        let n : ℕ = length ps - 1 in
-        let e : suc n ≡ length ps = omega arith in
-        ap (sum_before ps) (sym e) ∙ omega (arith, c.last n e, sum_first c n (omega arith))
+  pub by_sums : 0 < length ps → Counted ps ss → checks.Counted ps ss
+  by_sums some c =
+      let n : ℕ = length ps - 1 in
+      let e : suc n ≡ length ps = omega arith in
+      record { first = sum_first c; total = ap (sum_before ps) (sym e) ∙ omega (arith, c.last n e, sum_first c n (omega arith)) }
 
-    sums_counted : ((p : ℕ) → p < length ps → first_at ps p ≡ sum_before ps p) → sum_before ps (length ps) ≡ length ss → Counted ps ss
-    sums_counted first total =
-        record {
-          first = first 0 some;
-          running = λ p h. omega (arith, first (suc p) h, first p (omega arith));
-          last = λ p e. let f = first p (omega arith) in let t = ap (sum_before ps) e in omega arith;
-        }
+  -- and they say what it counts
+  pub by_places : 0 < length ps → checks.Counted ps ss → Counted ps ss
+  by_places some c =
+      record {
+        first = c.first 0 some;
+        running = λ p h. omega (arith, c.first (suc p) h, c.first p (omega arith));
+        last = λ p e. let f = c.first p (omega arith) in let t = c.total in let s = ap (sum_before ps) e in omega arith;
+      }
 
-    pub counts_decided : (sum : ℕ) → sum ≡ sum_before ps (length ps) → ((p : ℕ) → p < length ps → first_at ps p ≡ sum_before ps p) → Decides (eqb sum (length ss)) (Counted ps ss)
-    counts_decided sum e first =
-        Decides-like (eqb sum (length ss)) (λ t. sums_counted first (sym e ∙ t)) (λ c. e ∙ sum_last c) (Decides-eqb sum (length ss))
+  -- within a place of a counted table the names rise as far as the table reaches exactly if they rise
+  pub rises_all : checks.Counted ps ss → checks.Rising ps ss → Rising ps ss
+  rises_all c r p i h low high = r p h i low high (omega (arith, to_within ps ss c p h))
 
   module _ (c : Counted ps ss) where
     -- the slots of a place stand before those of each later place

@@ -1,22 +1,19 @@
 -- Marks of the places that earlier places lead to.
-use Rattle.std.proofs.Common.{◌≡◌, ℕ, ◌+◌, ◌<◌, ◌≤◌, Bool, true, false, ◌≢◌, List, length, set, replicate, sym, ap, ◌∙◌, subst, inl, inr, arith}
+use Rattle.std.proofs.Common.{◌≡◌, ℕ, ◌+◌, ◌-◌, ◌<◌, Bool, true, false, ◌≢◌, List, length, take, drop, set, replicate, sym, ap, ◌∙◌, subst, inl, inr, arith}
 use native.Mathlib.Decide.{dec_lt, ℕ_discrete}
 use Rattle.std.proofs.lemmas.List.{get_or-set_same, get_or-set_other, get_or-replicate, get_or_past, length-replicate}
 use Rattle.std.proofs.lemmas.Bool.{false≢true}
 use Rattle.records.specs.declared.PlaceRecord.{PlaceRecord}
 use Rattle.records.specs.declared.SlotRecord.{SlotRecord}
 use Rattle.records.specs.Tables.{first_at, count_at, target_at, Owns}
+use Rattle.records.specs.Checks as checks
+use Rattle.records.proofs.Owned.{own_length, own_target}
 use Rattle.renumbering.specs.Drafts.{LedBefore, LedOn, Marks, marked}
 
--- nothing is marked
-pub marks_none : (ss : List SlotRecord) (from : ℕ) (marks : List Bool) → Marks ss from from marks marks
-marks_none ss from marks =
-    record { still = λ q e. e; more = λ i l h. absurd (omega arith); only = λ q e. inl e }
-
 -- one more slot's target is marked
-pub marks_more : (ss : List SlotRecord) (from i t : ℕ) (old new : List Bool) → from ≤ i → t ≡ target_at ss i → t < length new → Marks ss from i old new
-    → Marks ss from (i + 1) old (set new t true)
-marks_more ss from i t old new low e h m =
+pub marks_more : (ss : List SlotRecord) (n t : ℕ) (old new : List Bool) → t ≡ target_at ss n → t < length new → Marks ss n old new
+    → Marks ss (n + 1) old (set new t true)
+marks_more ss n t old new e h m =
     let here : marked (set new t true) t ≡ true = get_or-set_same new t true false h in
     let kept : (q : ℕ) → marked new q ≡ true → marked (set new t true) q ≡ true =
     λ q is. elim (ℕ_discrete q t) [
@@ -25,17 +22,17 @@ marks_more ss from i t old new low e h m =
     ] in
     record {
       still = λ q is. kept q (m.still q is);
-      more = λ k l u. elim (dec_lt k i) [
-        | yes lt ↦ kept (target_at ss k) (m.more k l lt)
+      more = λ k u. elim (dec_lt k n) [
+        | yes lt ↦ kept (target_at ss k) (m.more k lt)
         | no ge ↦
-            let at : k ≡ i = omega arith in
+            let at : k ≡ n = omega arith in
             ap (λ j. marked (set new t true) (target_at ss j)) at ∙ ap (marked (set new t true)) (sym e) ∙ here
       ];
       only = λ q is. elim (ℕ_discrete q t) [
-        | yes at ↦ inr (i, low, omega arith, sym e ∙ sym at)
+        | yes at ↦ inr (n, omega arith, sym e ∙ sym at)
         | no off ↦ elim (m.only q (sym (get_or-set_other new t q true false off) ∙ is)) [
           | inl was ↦ inl was
-          | inr z ↦ inr (z.0, z.1, omega (arith, z.2), z.3)
+          | inr z ↦ inr (z.0, omega (arith, z.1), z.2)
         ]
       ];
     }
@@ -64,9 +61,13 @@ module _ {F : Type 0} (ps : List (PlaceRecord F)) (ss : List SlotRecord) where
             absurd (false≢true (sym (unmarked n q) ∙ sym (get_or-set_other (replicate n false) 0 q true false off) ∙ is));
       }
 
-  pub marked_more : (p from upto : ℕ) (old new : List Bool) → p < length ps → from ≡ first_at ps p → upto ≡ first_at ps p + count_at ps p
-      → Marked ps ss p old → Marks ss from upto old new → Marked ps ss (p + 1) new
-  marked_more p from upto old new h f u m k =
+  -- the slots xs of the place p mark what they lead to
+  pub marked_more : (p : ℕ) (xs : List SlotRecord) (old new : List Bool) → checks.Counted ps ss → p < length ps
+      → xs ≡ take (count_at ps p) (drop (first_at ps p) ss) → Marked ps ss p old → Marks xs (length xs) old new → Marked ps ss (p + 1) new
+  marked_more p xs old new c h own m k =
+      let from : ℕ = first_at ps p in
+      let long = own_length ps ss c p h xs own in
+      let target = own_target ps ss c p h xs own in
       record {
         root = k.still 0 m.root;
         all = λ x i l o. elim (dec_lt x p) [
@@ -74,7 +75,10 @@ module _ {F : Type 0} (ps : List (PlaceRecord F)) (ss : List SlotRecord) where
           | no ge ↦
               let at : x ≡ p = omega arith in
               let o' = subst (λ z. Owns ps z i) at o in
-              k.more i (omega arith) (omega arith)
+              let j : ℕ = i - from in
+              let there : from + j ≡ i = omega (arith, o'.from) in
+              let is : target_at xs j ≡ target_at ss i = target j (omega (arith, o'.upto)) ∙ ap (target_at ss) there in
+              ap (marked new) (sym is) ∙ k.more j (omega (arith, o'.upto))
         ];
         only = λ q l is. elim (k.only q is) [
           | inl was ↦
@@ -83,10 +87,10 @@ module _ {F : Type 0} (ps : List (PlaceRecord F)) (ss : List SlotRecord) where
           | inr z ↦
               record {
                 place = p;
-                slot = z.0;
+                slot = from + z.0;
                 earlier = omega arith;
-                owns = record { place = h; from = omega (arith, z.1); upto = omega (arith, z.2) };
-                leads = z.3;
+                owns = record { place = h; from = omega arith; upto = omega (arith, z.1) };
+                leads = sym (target z.0 (omega (arith, z.1))) ∙ z.2;
               }
         ];
       }

@@ -5,6 +5,7 @@ use Rattle.records.specs.declared.PlaceRecord.{PlaceRecord}
 use Rattle.records.specs.declared.SlotRecord.{SlotRecord}
 use Rattle.records.specs.declared.Counts.{Counts}
 use Rattle.records.specs.Tables.{first_at, count_at, name_at, target_at, Owns}
+use Rattle.records.specs.Checks.{Aimed}
 use Rattle.numbering.specs.Quotient.{Quotient, Kept}
 
 module _ {F : Type 0} (ps : List (PlaceRecord F)) (ss : List SlotRecord) where
@@ -13,10 +14,6 @@ module _ {F : Type 0} (ps : List (PlaceRecord F)) (ss : List SlotRecord) where
     pub first : first_at ps 0 ≡ 0
     pub running : (p : ℕ) → suc p < length ps → first_at ps (suc p) ≡ first_at ps p + count_at ps p
     pub last : (p : ℕ) → suc p ≡ length ps → first_at ps p + count_at ps p ≡ length ss
-
-  -- each slot leads to a place
-  abbrev pub Aimed : Type 0
-  Aimed = (i : ℕ) → i < length ss → target_at ss i < length ps
 
   -- within a place the names rise
   abbrev pub Rising : Type 0
@@ -40,7 +37,7 @@ module _ {F : Type 0} (ps : List (PlaceRecord F)) (ss : List SlotRecord) where
     pub few_places : length ps ≤ 1000
     pub few_slots : length ss ≤ 4000
     pub counted : Counted
-    pub aimed : Aimed
+    pub aimed : Aimed ps ss
     pub rising : Rising
     pub led : LedOn
 
@@ -64,18 +61,14 @@ module _ {F : Type 0} (ps : List (PlaceRecord F)) (ss : List SlotRecord) where
   Renumbers (Some counts) old_places new_places old_slots new_slots = Renumbered counts old_places new_places old_slots new_slots
   Renumbers None old_places new_places old_slots new_slots = (new_places ≡ old_places) × (new_slots ≡ old_slots)
 
--- ---- what the loops of the check find
-
--- the names of the slots from `from` up to `upto` rise
-abbrev pub RisesWithin : List SlotRecord → ℕ → ℕ → Type 0
-RisesWithin ss from upto = (i : ℕ) → from ≤ i → suc i < upto → name_at ss i < name_at ss (suc i)
+-- ---- the marks of the places that slots lead to
 
 -- whether q is marked
 abbrev pub marked : List Bool → ℕ → Bool
 marked marks q = slice_index_or marks q false
 
--- in new those are marked that were in old, and those that the slots from `from` up to `upto` lead to
-pub record Marks (ss : List SlotRecord) (from upto : ℕ) (old new : List Bool) : Type 0 where
+-- in new those are marked that were in old, and those that the first n of these slots lead to
+pub record Marks (ss : List SlotRecord) (n : ℕ) (old new : List Bool) : Type 0 where
   pub still : (q : ℕ) → marked old q ≡ true → marked new q ≡ true
-  pub more : (i : ℕ) → from ≤ i → i < upto → marked new (target_at ss i) ≡ true
-  pub only : (q : ℕ) → marked new q ≡ true → (marked old q ≡ true) ⊎ ((i : ℕ) × (from ≤ i) × (i < upto) × (target_at ss i ≡ q))
+  pub more : (i : ℕ) → i < n → marked new (target_at ss i) ≡ true
+  pub only : (q : ℕ) → marked new q ≡ true → (marked old q ≡ true) ⊎ ((i : ℕ) × (i < n) × (target_at ss i ≡ q))

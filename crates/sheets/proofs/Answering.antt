@@ -1,5 +1,5 @@
 -- Checks have one answer.
-use Rattle.std.proofs.Common.{◌≡◌, ℕ, Bool, true, false, ◌⊎◌, [], ◌∷◌, None, Decides, MatchBool, Option, sym, refl, ◌∙◌, inl, inr, arith}
+use Rattle.std.proofs.Common.{◌≡◌, ℕ, Bool, true, false, [], ◌∷◌, None, Decides, MatchBool, Option, sym, refl, ◌∙◌, inl, inr, arith}
 use Rattle.std.proofs.lemmas.Bool.{false≢true}
 use Rattle.sheets.specs.Refusals.{Checks, Answered}
 
@@ -14,9 +14,6 @@ one_answer (check ∷ cs) a b p q =
 pub decides_no : {P : Type 0} → (P → ⊥) → Decides false P
 decides_no n = (λ e. absurd (false≢true e), λ p. absurd (n p))
 
-pub not_decided : {P : Type 0} → Decides false P → P → ⊥
-not_decided d p = false≢true (d.1 p)
-
 -- acceptance says of each check that its condition does not hold
 abbrev pub NoneHolds : Checks → Type 0
 NoneHolds [] = Unit {0}
@@ -30,7 +27,3 @@ none_holds (check ∷ others) (inr y) = (y.0, none_holds others y.1)
 pub when_so : {P Q : Type 0} (b : Bool) → (b ≡ true → P) → (b ≡ false → Q) → MatchBool b P Q
 when_so true p q = p refl
 when_so false p q = q refl
-
-pub neither : {P Q : Type 0} → Decides false P → Decides false Q → P ⊎ Q → ⊥
-neither d e (inl p) = not_decided d p
-neither d e (inr q) = not_decided e q

@@ -8,7 +8,7 @@ use Rattle.records.specs.Tables.{first_at, count_at, target_at, met}
 use Rattle.sheets.specs.Checks.{OtherNumbering, late, ahead, unreached}
 use Rattle.records.specs.Checks.{Counted, sum_before}
 use Rattle.records.proofs.Counting.{rises, to_is, to_within}
-use Rattle.records.proofs.Owned.{part_length, part_target}
+use Rattle.records.proofs.Owned.{part_target, own_length, own_target}
 use Rattle.sheets.specs.Scans.{Ahead, met_from}
 
 module _ (ss : List SlotRecord) where
@@ -54,22 +54,16 @@ module _ {F : Type 0} (ps : List (PlaceRecord F)) (ss : List SlotRecord) where
 -- the turn of the place p, whose slots are xs, where `next` places are numbered before it
 module _ {F : Type 0} (ps : List (PlaceRecord F)) (ss : List SlotRecord) (c : Counted ps ss) (p : ℕ) (h : p < length ps) (next : ℕ) (xs : List SlotRecord)
     (begun : next ≡ met ss (first_at ps p)) (own : xs ≡ take (count_at ps p) (drop (first_at ps p) ss)) where
-  turn_length : length xs ≡ count_at ps p
-  turn_length = ap length own ∙ part_length ss (first_at ps p) (count_at ps p) (to_within ps ss c p h)
-
   turn_met_at : (k : ℕ) → k ≤ count_at ps p → met_from next xs k ≡ met ss (first_at ps p + k)
   turn_met_at k l = ap (λ n. met_from n xs k) begun ∙ ap (λ l. met_from (met ss (first_at ps p)) l k) own ∙ met_part ss (first_at ps p) (count_at ps p) k l
 
-  turn_target : (k : ℕ) → k < count_at ps p → target_at xs k ≡ target_at ss (first_at ps p + k)
-  turn_target k l = ap (λ l. target_at l k) own ∙ part_target ss (first_at ps p) (count_at ps p) k l
-
   pub turn_ahead : Ahead next xs → OtherNumbering ps ss
   turn_ahead w =
-      let l : w.slot < count_at ps p = omega (arith, w.within, turn_length) in
-      ahead (first_at ps p + w.slot) (omega (arith, to_within ps ss c p h)) (omega (arith, w.ahead, turn_met_at w.slot (omega arith), turn_target w.slot l))
+      let l : w.slot < count_at ps p = omega (arith, w.within, own_length ps ss c p h xs own) in
+      ahead (first_at ps p + w.slot) (omega (arith, to_within ps ss c p h)) (omega (arith, w.ahead, turn_met_at w.slot (omega arith), own_target ps ss c p h xs own w.slot l))
 
   pub turn_met : met_from next xs (length xs) ≡ met ss (sum_before ps (p + 1))
-  turn_met = ap (met_from next xs) turn_length ∙ turn_met_at (count_at ps p) (omega arith) ∙ ap (met ss) (to_is ps ss c p h)
+  turn_met = ap (met_from next xs) (own_length ps ss c p h xs own) ∙ turn_met_at (count_at ps p) (omega arith) ∙ ap (met ss) (to_is ps ss c p h)
 
   pub turn_close : (Ahead next xs → ⊥) → (i : ℕ) → first_at ps p ≤ i → i < sum_before ps (p + 1) → target_at ss i ≤ met ss i
   turn_close none i low high =
@@ -77,6 +71,6 @@ module _ {F : Type 0} (ps : List (PlaceRecord F)) (ss : List SlotRecord) (c : Co
       let l : k < count_at ps p = omega (arith, to_is ps ss c p h) in
       let e : first_at ps p + k ≡ i = omega arith in
       elim (cases_lt (met_from next xs k) (target_at xs k)) [
-        | inl lt ↦ absurd (none (record { slot = k; within = omega (arith, turn_length); ahead = lt }))
-        | inr ge ↦ omega (arith, turn_met_at k (omega arith), turn_target k l, ap (met ss) e, ap (target_at ss) e)
+        | inl lt ↦ absurd (none (record { slot = k; within = omega (arith, own_length ps ss c p h xs own); ahead = lt }))
+        | inr ge ↦ omega (arith, turn_met_at k (omega arith), own_target ps ss c p h xs own k l, ap (met ss) e, ap (target_at ss) e)
       ]

@@ -12,6 +12,7 @@ pub(crate) fn other_numbering<F: Copy>(tables: Tables<'_, F>) -> bool
     ensures { Decides result (OtherNumbering tables.entry.places.now tables.entry.slots.now) }
 {
     let mut next = 1;
+    // Not a walk over the records: `p` is a place's number, which is held against `next`, and its slots are asked by it.
     for p in 0..tables.places.len() {
         if p >= next {
             return true;

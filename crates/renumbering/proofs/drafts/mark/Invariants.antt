@@ -1,5 +1,6 @@
+use Rattle.std.proofs.Common.{◌≡◌, length}
 use Rattle.renumbering.specs.Drafts.{Marks}
 use Rattle.renumbering.proofs.drafts.mark.Given as goal
 
-abbrev pub invariant-loop-i : goal.invariant-loop-i
-invariant-loop-i l = Marks l.slots l.from l.i l.initial.marks l.marks
+abbrev pub invariant-loop-slot : goal.invariant-loop-slot
+invariant-loop-slot l = (length l.marks ≡ length l.initial.marks) × Marks l.slots l.slot-index l.initial.marks l.marks
