@@ -66,6 +66,50 @@ pub record Walked {F : Type 0} (ps : List (PlaceRecord F)) (ss : List SlotRecord
   pub tells : Tells changed old new
   pub met : all ≡ true → (f p : ℕ) (e : Edge ps ss x f p) → e.slot < i → (q : ℕ) × Edge ps ss y f q
 
+module _ {F : Type 0} (ps : List (PlaceRecord F)) (ss : List SlotRecord) (ordered : Ordered ps ss) where
+  -- names do not fall, and one name stands once
+  rises : (z i k : ℕ) → z < length ps → first_at ps z ≤ i → i ≤ k → k < first_at ps z + count_at ps z → name_at ss i ≤ name_at ss k
+  rises z i k h a b c =
+      ⊎_elim (λ e. rw e (omega arith)) (λ ne. omega (arith, ordered.rising z i k h a (omega arith) c)) (cases_eq i k)
+
+  once : (z i k : ℕ) → z < length ps → first_at ps z ≤ i → i ≤ k → k < first_at ps z + count_at ps z → name_at ss i ≡ name_at ss k → k ≡ i
+  once z i k h a b c e =
+      ⊎_elim (λ e. sym e) (λ ne. absurd (omega (arith, ordered.rising z i k h a (omega arith) c))) (cases_eq i k)
+
+  edge_once : (z f p q : ℕ) → Edge ps ss z f p → Edge ps ss z f q → p ≡ q
+  edge_once z f p q e d =
+      sym e.leads ∙ ap (target_at ss) at ∙ d.leads
+    where
+      at : e.slot ≡ d.slot
+      at =
+          ⊎_elim
+          (λ l. sym (once z e.slot d.slot e.owns.place e.owns.from (omega arith) d.owns.upto (e.named ∙ sym d.named)))
+          (λ ge. once z d.slot e.slot d.owns.place d.owns.from ge e.owns.upto (d.named ∙ sym e.named))
+          (cases_lt e.slot d.slot)
+
+  -- where y has every name of x, agrees with x and with each place before x, these agree with x
+  pub covered_agree : (links : List ℕ) (u v : ℕ) → v < u → Covers (Edge ps ss) v u → Same links u v → Agree (Edge ps ss) links u v → AgreeBelow (Edge ps ss) links u
+      → (z : ℕ) → z < u → Agree (Edge ps ss) links u z
+  covered_agree links u v l covers together agree below z m s f p q e d =
+      let c = covers f p e in
+      agree together f p c.0 e c.1
+      ∙ ⊎_elim
+      (λ eq. ap (end links) (edge_once z f c.0 q (subst (λ (n : ℕ). Edge ps ss n f c.0) eq c.1) d))
+      (⊎_elim
+      (λ less. sym (below z m v less (sym s ∙ together) f q c.0 d c.1))
+      (λ less. below v l z less (sym together ∙ s) f c.0 q c.1 d))
+      (cases_order v z)
+
+  -- where each place agrees with those before it, all agree
+  pub closed_all : (links : List ℕ) → AgreeBelow (Edge ps ss) links (length ps) → Closed (Edge ps ss) links
+  closed_all links h u v s f p q e d =
+      ⊎_elim
+      (λ eq. ap (end links) (edge_once v f p q (subst (λ (z : ℕ). Edge ps ss z f p) eq e) d))
+      (⊎_elim
+      (λ l. sym (h v d.owns.place u l (sym s) f q p d e))
+      (λ l. h u e.owns.place v l s f p q e d))
+      (cases_order u v)
+
 module _ {F : Type 0} (ps : List (PlaceRecord F)) (ss : List SlotRecord) (ordered : Ordered ps ss) (x y : ℕ) (old : List ℕ) where
   pub walked_none : Forest old → Walked ps ss x y old old false true (first_at ps x) (first_at ps y)
   walked_none forest = record {
@@ -85,15 +129,6 @@ module _ {F : Type 0} (ps : List (PlaceRecord F)) (ss : List SlotRecord) (ordere
   pub walked_covers : (new : List ℕ) (changed all : Bool) (i j : ℕ) → Walked ps ss x y old new changed all i j → first_at ps x + count_at ps x ≤ i → all ≡ true → Covers (Edge ps ss) y x
   walked_covers new changed all i j w h t f p e = w.met t f p e (omega (arith, e.owns.upto))
 
-  -- names do not fall, and one name stands once
-  rises : (z i k : ℕ) → z < length ps → first_at ps z ≤ i → i ≤ k → k < first_at ps z + count_at ps z → name_at ss i ≤ name_at ss k
-  rises z i k h a b c =
-      ⊎_elim (λ e. rw e (omega arith)) (λ ne. omega (arith, ordered.rising z i k h a (omega arith) c)) (cases_eq i k)
-
-  once : (z i k : ℕ) → z < length ps → first_at ps z ≤ i → i ≤ k → k < first_at ps z + count_at ps z → name_at ss i ≡ name_at ss k → k ≡ i
-  once z i k h a b c e =
-      ⊎_elim (λ e. sym e) (λ ne. absurd (omega (arith, ordered.rising z i k h a (omega arith) c))) (cases_eq i k)
-
   module _ (new : List ℕ) (changed all : Bool) (i j : ℕ) (w : Walked ps ss x y old new changed all i j)
       (in_x : i < first_at ps x + count_at ps x) (in_y : j < first_at ps y + count_at ps y) where
     pub walked_left : name_at ss i < name_at ss j → Walked ps ss x y old new changed false (i + 1) j
@@ -110,7 +145,7 @@ module _ {F : Type 0} (ps : List (PlaceRecord F)) (ss : List SlotRecord) (ordere
           (λ l. w.done f p q e d (inr l))
           (λ ge'. absurd (
           let at : e.slot ≡ i = ⊎_elim (λ l. omega arith) (λ l. absurd (omega arith)) h in
-          omega (arith, ap (name_at ss) at, rises y j d.slot d.owns.place w.from_y ge' d.owns.upto, e.named, d.named)))
+          omega (arith, ap (name_at ss) at, rises ps ss ordered y j d.slot d.owns.place w.from_y ge' d.owns.upto, e.named, d.named)))
           (cases_lt d.slot j))
           (cases_lt e.slot i);
     }
@@ -129,7 +164,7 @@ module _ {F : Type 0} (ps : List (PlaceRecord F)) (ss : List SlotRecord) (ordere
           (λ l. w.done f p q e d (inl l))
           (λ ge'. absurd (
           let at : d.slot ≡ j = ⊎_elim (λ l. absurd (omega arith)) (λ l. omega arith) h in
-          omega (arith, ap (name_at ss) at, rises x i e.slot e.owns.place w.from_x ge' e.owns.upto, e.named, d.named)))
+          omega (arith, ap (name_at ss) at, rises ps ss ordered x i e.slot e.owns.place w.from_x ge' e.owns.upto, e.named, d.named)))
           (cases_lt e.slot i))
           (cases_lt d.slot j);
     }
@@ -178,43 +213,9 @@ module _ {F : Type 0} (ps : List (PlaceRecord F)) (ss : List SlotRecord) (ordere
         both f p q e d ge ge' =
             ⊎_elim
             (λ l. let at : e.slot ≡ i = omega arith in
-            (at, once y j d.slot d.owns.place w.from_y ge' d.owns.upto (sym eq ∙ ap (name_at ss) (sym at) ∙ e.named ∙ sym d.named)))
+            (at, once ps ss ordered y j d.slot d.owns.place w.from_y ge' d.owns.upto (sym eq ∙ ap (name_at ss) (sym at) ∙ e.named ∙ sym d.named)))
             (λ l. let at : d.slot ≡ j = omega arith in
-            (once x i e.slot e.owns.place w.from_x ge e.owns.upto (eq ∙ ap (name_at ss) (sym at) ∙ d.named ∙ sym e.named), at))
-
-  edge_once : (z f p q : ℕ) → Edge ps ss z f p → Edge ps ss z f q → p ≡ q
-  edge_once z f p q e d =
-      sym e.leads ∙ ap (target_at ss) at ∙ d.leads
-    where
-      at : e.slot ≡ d.slot
-      at =
-          ⊎_elim
-          (λ l. sym (once z e.slot d.slot e.owns.place e.owns.from (omega arith) d.owns.upto (e.named ∙ sym d.named)))
-          (λ ge. once z d.slot e.slot d.owns.place d.owns.from ge e.owns.upto (d.named ∙ sym e.named))
-          (cases_lt e.slot d.slot)
-
-  -- where y has every name of x, agrees with x and with each place before x, these agree with x
-  pub covered_agree : (links : List ℕ) (u v : ℕ) → v < u → Covers (Edge ps ss) v u → Same links u v → Agree (Edge ps ss) links u v → AgreeBelow (Edge ps ss) links u
-      → (z : ℕ) → z < u → Agree (Edge ps ss) links u z
-  covered_agree links u v l covers together agree below z m s f p q e d =
-      let c = covers f p e in
-      agree together f p c.0 e c.1
-      ∙ ⊎_elim
-      (λ eq. ap (end links) (edge_once z f c.0 q (subst (λ (n : ℕ). Edge ps ss n f c.0) eq c.1) d))
-      (⊎_elim
-      (λ less. sym (below z m v less (sym s ∙ together) f q c.0 d c.1))
-      (λ less. below v l z less (sym together ∙ s) f c.0 q c.1 d))
-      (cases_order v z)
-
-  -- where each place agrees with those before it, all agree
-  pub closed_all : (links : List ℕ) → AgreeBelow (Edge ps ss) links (length ps) → Closed (Edge ps ss) links
-  closed_all links h u v s f p q e d =
-      ⊎_elim
-      (λ eq. ap (end links) (edge_once v f p q (subst (λ (z : ℕ). Edge ps ss z f p) eq e) d))
-      (⊎_elim
-      (λ l. sym (h v d.owns.place u l (sym s) f q p d e))
-      (λ l. h u e.owns.place v l s f p q e d))
-      (cases_order u v)
+            (once ps ss ordered x i e.slot e.owns.place w.from_x ge e.owns.upto (eq ∙ ap (name_at ss) (sym at) ∙ d.named ∙ sym e.named), at))
 
 -- the walk as far as `left` is left of the slots of x, and `right` of those of y
 pub record Walking {F : Type 0} (ps : List (PlaceRecord F)) (ss : List SlotRecord) (x y : ℕ) (old new : List ℕ) (changed all : Bool) (left right : List SlotRecord) : Type 0 where
@@ -226,15 +227,16 @@ module _ {F : Type 0} (ps : List (PlaceRecord F)) (ss : List SlotRecord) (ordere
   abbrev slots_of : ℕ → List SlotRecord
   slots_of p = take (count_at ps p) (drop (first_at ps p) ss)
 
-  pub walking_none : Forest old → Walking ps ss x y old old false true (slots_of x) (slots_of y)
-  walking_none forest =
+  pub walking_none : Forest old → (left right : List SlotRecord) → left ≡ slots_of x → right ≡ slots_of y → Walking ps ss x y old old false true left right
+  walking_none forest left right el er =
       let a = rest_all ss (first_at ps x) (count_at ps x) (ordered.inside x x_in) in
       let b = rest_all ss (first_at ps y) (count_at ps y) (ordered.inside y y_in) in
-      record {
+      subst₂ (λ (l r : List SlotRecord). Walking ps ss x y old old false true l r) (sym el) (sym er)
+      (record {
         of_x = a.0;
         of_y = b.0;
         walked = subst₂ (λ (i j : ℕ). Walked ps ss x y old old false true i j) (sym a.1) (sym b.1) (walked_none ps ss ordered x y old forest);
-      }
+      })
 
   module _ (new : List ℕ) (changed all : Bool) (left right : List SlotRecord) (w : Walking ps ss x y old new changed all left right) where
     pub walking_all : (length left ≡ 0) ⊎ (length right ≡ 0) → Agree (Edge ps ss) new x y

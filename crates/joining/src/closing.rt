@@ -13,7 +13,8 @@ use std::cmp::Ordering;
 // The most places that are joined at one time.
 pub const PLACES: usize = 1000;
 
-// What came of two places: whether anything was joined, and whether the second has every name that the first has.
+// What came of two places: whether anything was joined, and whether the second has every name that the first has. (Each may hold
+// without the other.)
 #[derive(Clone, Copy)]
 struct Common {
     changed: bool,
@@ -86,6 +87,7 @@ fn pass<F: Copy>(sides: &Sides<'_, F>, links: &mut [u16], ring: &mut [u16]) -> b
     ensures tells { Tells result links.old links.new }
 {
     let mut changed = false;
+    // A turn takes no more of a place than its number.
     for x in 0..sides.tables.places.len() {
         put(links, ring, x);
         changed |= follow_ring(sides, links, ring, x);
@@ -100,6 +102,7 @@ pub(crate) fn close<F: Copy>(sides: &Sides<'_, F>, links: &mut [u16])
     ensures forest { Forest links.new }
     ensures least { (x y : ℕ) → Same links.new x y ↔ Closure (Edge sides.now.tables.places.now sides.now.tables.slots.now) (Same links.old) x y }
 {
+    // The library has no heap: the ring is fixed memory.
     let mut ring = [0u16; PLACES];
     while pass(sides, links, &mut ring) {}
 }

@@ -1,4 +1,6 @@
-// Links as a forest: following them to their end, and joining two ends.
+// Links as a forest: following them to their end, and joining two ends. The caller lends them, a number for each place, since the
+// library has no heap. That they are a forest is a clause of each function: a struct over the lent links that held it would have
+// each function promise in its place that the same links are still lent.
 ghost use Rattle.std.specs.Prelude.{◌≡◌, ◌<◌, ◌≤◌, length};
 ghost use Rattle.joining.specs.Forest.{Forest, Merges, Tells, end, link};
 

@@ -9,10 +9,7 @@ loop-ring-init g c = (refl, grows_none (Edge c.args.sides.now.tables.places.now 
 pub loop-ring-preserved : goal.loop-ring-preserved
 loop-ring-preserved g c = (c.pass.auto.ring ∙ c.loop-ring.invariant.0, grows_then (Edge c.args.sides.now.tables.places.now c.args.sides.now.tables.slots.now) c.loop-ring.invariant.1 c.pass.ensures.grows)
 
-pub returns : goal.returns
-returns g c =
-    let grown = grows_then (Edge c.args.sides.now.tables.places.now c.args.sides.now.tables.slots.now) c.loop-ring.invariant.1 c.pass.ensures.grows in
-    record {
-      forest = grown.forest;
-      least = closed_least (Edge c.args.sides.now.tables.places.now c.args.sides.now.tables.slots.now) c.args.links.now c.pass.new.links grown (c.pass.ensures.closed c.loop-ring-test.false);
-    }
+pub returns-clause-least : goal.returns-clause-least
+returns-clause-least g c =
+    let edges = Edge c.args.sides.now.tables.places.now c.args.sides.now.tables.slots.now in
+    closed_least edges c.args.links.now c.pass.new.links (grows_then edges c.loop-ring.invariant.1 c.pass.ensures.grows) (c.pass.ensures.closed c.loop-ring-test.false)

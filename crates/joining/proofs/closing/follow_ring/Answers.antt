@@ -18,16 +18,6 @@ loop-y-init g c = (
   λ _ _ z l u s. absurd (omega arith),
 )
 
-pub join_common-common-requires : goal.join_common-common-requires
-join_common-common-requires g c =
-    let inv = c.loop-y.invariant in
-    record {
-      room = omega (arith, c.requires.room.0);
-      forest = inv.0.forest;
-      within = (c.requires.within, omega (arith, inv.2));
-      together = inv.0.keeps _ _ (inv.3 ∙ c.requires.rings.joined c.loop-y.y (omega (arith, inv.2)));
-    }
-
 pub loop-y-preserved : goal.loop-y-preserved
 loop-y-preserved g c =
     let inv = c.loop-y.invariant in
@@ -46,35 +36,28 @@ loop-y-preserved g c =
           (λ _. step.ensures.agree),
     )
 
-pub returns : goal.returns
-returns g c =
+pub returns-clause-agree : goal.returns-clause-agree
+returns-clause-agree g c e whole _ z l s =
     let inv = c.loop-y.invariant in
-    record {
-      grows = inv.0;
-      agree = λ e whole _ z l s.
-          let same : c.loop-y.links ≡ c.args.links.now = still c.loop-y.changed c.args.links.now c.loop-y.links inv.1 e in
-          at_last c.args.links.now c.args.ring.now c.requires.forest (c.args.x + 1) whole
-          (Agree (Edge c.args.sides.now.tables.places.now c.args.sides.now.tables.slots.now) c.loop-y.links c.args.x) c.args.x c.loop-y.y
-          (omega (arith, inv.2)) inv.3 (omega (arith, c.loop-y-test.false)) (inv.4 e whole)
-          z l (subst (λ (ls : List ℕ). Same ls c.args.x z) same s) s;
-      tells = inv.1;
-    }
+    let same : c.loop-y.links ≡ c.args.links.now = still c.loop-y.changed c.args.links.now c.loop-y.links inv.1 e in
+    at_last c.args.links.now c.args.ring.now c.requires.forest (c.args.x + 1) whole
+    (Agree (Edge c.args.sides.now.tables.places.now c.args.sides.now.tables.slots.now) c.loop-y.links c.args.x) c.args.x c.loop-y.y
+    (omega (arith, inv.2)) inv.3 (omega (arith, c.loop-y-test.false)) (inv.4 e whole)
+    z l (subst (λ (ls : List ℕ). Same ls c.args.x z) same s) s
 
-pub returns-then-common : goal.returns-then-common
-returns-then-common g c =
+pub returns-then-common-clause-grows : goal.returns-then-common-clause-grows
+returns-then-common-clause-grows g c =
+    grows_then (Edge c.args.sides.now.tables.places.now c.args.sides.now.tables.slots.now) c.loop-y.invariant.0 c.join_common-common.ensures.grows
+
+pub returns-then-common-clause-agree : goal.returns-then-common-clause-agree
+returns-then-common-clause-agree g c e whole below =
+    let ps = c.args.sides.now.tables.places.now in
+    let ss = c.args.sides.now.tables.slots.now in
     let inv = c.loop-y.invariant in
     let step = c.join_common-common in
-    let y : ℕ = next c.args.ring.now c.loop-y.y in
-    let grown = grows_then (Edge c.args.sides.now.tables.places.now c.args.sides.now.tables.slots.now) inv.0 step.ensures.grows in
     let told = tells_then c.loop-y.changed step.result.changed c.args.links.now c.loop-y.links step.new.links inv.1 step.ensures.tells in
-    record {
-      grows = grown;
-      agree = λ e whole below.
-          let same : c.args.links.now ≡ step.new.links =
-          sym (still (c.loop-y.changed || step.result.changed) c.args.links.now step.new.links told e) in
-          covered_agree c.args.sides.now.tables.places.now c.args.sides.now.tables.slots.now c.args.sides.now.ordered 0 0 c.args.links.now step.new.links c.args.x y
-          (omega (arith, inv.2)) (step.ensures.covers c.if-common.true)
-          (grown.keeps c.args.x y (inv.3 ∙ c.requires.rings.joined c.loop-y.y (omega (arith, inv.2)))) step.ensures.agree
-          (subst (λ (ls : List ℕ). AgreeBelow (Edge c.args.sides.now.tables.places.now c.args.sides.now.tables.slots.now) ls c.args.x) same below);
-      tells = told;
-    }
+    let same : c.args.links.now ≡ step.new.links = sym (still (c.loop-y.changed || step.result.changed) c.args.links.now step.new.links told e) in
+    covered_agree ps ss c.args.sides.now.ordered step.new.links c.args.x (next c.args.ring.now c.loop-y.y)
+    (omega (arith, inv.2)) (step.ensures.covers c.if-common.true)
+    ((grows_then (Edge ps ss) inv.0 step.ensures.grows).keeps _ _ (inv.3 ∙ c.requires.rings.joined c.loop-y.y (omega (arith, inv.2)))) step.ensures.agree
+    (subst (λ (ls : List ℕ). AgreeBelow (Edge ps ss) ls c.args.x) same below)

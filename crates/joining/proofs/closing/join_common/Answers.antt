@@ -1,17 +1,13 @@
-use Rattle.std.proofs.Common.{rules, ◌≡◌, ◌<◌, true, false, ◌⊎◌, List, ◌∷◌, length, sym, ◌∙◌, subst₂, inl, inr, arith}
+use Rattle.std.proofs.Common.{rules, ◌≡◌, ◌<◌, ◌⊎◌, ◌∷◌, length, sym, ◌∙◌, inl, inr, arith}
 use Rattle.std.proofs.lemmas.Bool.{and_parts, eqb-true}
-use Rattle.records.specs.declared.SlotRecord.{SlotRecord}
-use Rattle.joining.proofs.Walks.{Walking, walking_none, walking_all, walking_covers, leads_in, walking_left, walking_right, walking_both}
+use Rattle.joining.proofs.Walks.{walking_none, walking_all, walking_covers, leads_in, walking_left, walking_right, walking_both}
 use Rattle.joining.proofs.closing.join_common.Goals as goal
 use Rattle.joining.proofs.closing.join_common.Goals.{in_default, in_default-2}
 
 pub loop-s-init : goal.loop-s-init
 loop-s-init g c =
-    let ps = c.args.sides.now.tables.places.now in
-    let ss = c.args.sides.now.tables.slots.now in
-    subst₂ (λ (l r : List SlotRecord). Walking ps ss c.args.x c.args.y c.args.links.now c.args.links.now false true l r)
-    (sym c.slots_of-left.ensures) (sym c.slots_of-right.ensures) (walking_none ps ss c.args.sides.now.ordered c.args.x c.args.y c.requires.within.0 c.requires.within.1
-    c.args.links.now c.requires.forest)
+    walking_none c.args.sides.now.tables.places.now c.args.sides.now.tables.slots.now c.args.sides.now.ordered c.args.x c.args.y c.requires.within.0 c.requires.within.1
+    c.args.links.now c.requires.forest c.slots_of-left.result.now c.slots_of-right.result.now c.slots_of-left.ensures c.slots_of-right.ensures
 
 pub join-changed-requires-clause-within : goal.join-changed-requires-clause-within
 join-changed-requires-clause-within g c =
@@ -61,20 +57,16 @@ loop-s-preserved g c =
     walking_both ps ss c.args.sides.now.ordered c.args.x c.args.y c.requires.within.0 c.requires.within.1 c.args.links.now c.loop-s.links c.loop-s.changed c.loop-s.all
     c.loop-s.left.now c.loop-s.right.now c.loop-s.invariant s t _ _ is_s is_t same c.requires.together c.join-changed.new.links c.join-changed.result c.join-changed.ensures.merges c.join-changed.ensures.tells
 
-pub returns : goal.returns
-returns g c =
-    let ps = c.args.sides.now.tables.places.now in
-    let ss = c.args.sides.now.tables.slots.now in
-    let w = c.loop-s.invariant in
+pub returns-clause-agree : goal.returns-clause-agree
+returns-clause-agree g c =
     let ended : (length c.loop-s.left.now ≡ 0) ⊎ (length c.loop-s.right.now ≡ 0) =
     elim c.match-split_first.branch [ in_default w ↦ inr (search rules) | in_default-2 w ↦ inl (search rules) ] in
-    record {
-      grows = w.walked.grows;
-      agree = walking_all ps ss c.args.sides.now.ordered c.args.x c.args.y c.requires.within.0 c.requires.within.1 c.args.links.now c.loop-s.links c.loop-s.changed
-          c.loop-s.all c.loop-s.left.now c.loop-s.right.now w ended;
-      tells = w.walked.tells;
-      covers = λ t.
-          let parts = and_parts c.loop-s.all c.is_empty-all.result t in
-          walking_covers ps ss c.args.sides.now.ordered c.args.x c.args.y c.requires.within.0 c.requires.within.1 c.args.links.now c.loop-s.links c.loop-s.changed
-          c.loop-s.all c.loop-s.left.now c.loop-s.right.now w (eqb-true (length c.loop-s.left.now) 0 (sym c.is_empty-all.ensures ∙ parts.1)) parts.0;
-    }
+    walking_all c.args.sides.now.tables.places.now c.args.sides.now.tables.slots.now c.args.sides.now.ordered c.args.x c.args.y c.requires.within.0 c.requires.within.1
+    c.args.links.now c.loop-s.links c.loop-s.changed c.loop-s.all c.loop-s.left.now c.loop-s.right.now c.loop-s.invariant ended
+
+pub returns-clause-covers : goal.returns-clause-covers
+returns-clause-covers g c t =
+    let parts = and_parts c.loop-s.all c.is_empty-all.result t in
+    walking_covers c.args.sides.now.tables.places.now c.args.sides.now.tables.slots.now c.args.sides.now.ordered c.args.x c.args.y c.requires.within.0 c.requires.within.1
+    c.args.links.now c.loop-s.links c.loop-s.changed c.loop-s.all c.loop-s.left.now c.loop-s.right.now c.loop-s.invariant
+    (eqb-true (length c.loop-s.left.now) 0 (sym c.is_empty-all.ensures ∙ parts.1)) parts.0

@@ -17,28 +17,6 @@ loop-x-init g c = (
   λ _. below_none (λ (k : ℕ). (i : ℕ) → i < k → Agree (Edge c.args.sides.now.tables.places.now c.args.sides.now.tables.slots.now) c.args.links.now k i),
 )
 
-pub put-requires : goal.put-requires
-put-requires g c =
-    let inv = c.loop-x.invariant in
-    record {
-      forest = inv.0.forest;
-      within = (
-        omega (arith, c.loop-x-test.true, c.requires.room.0),
-        (omega (arith, c.loop-x-test.true, c.requires.room.1.0), omega (arith, c.requires.room.1.1)),
-      );
-      rings = inv.2;
-    }
-
-pub follow_ring-changed-requires : goal.follow_ring-changed-requires
-follow_ring-changed-requires g c =
-    let inv = c.loop-x.invariant in
-    record {
-      room = (omega (arith, c.requires.room.0), omega (arith, c.requires.room.1.0));
-      forest = inv.0.forest;
-      within = c.loop-x-test.true;
-      rings = c.put.ensures.rings;
-    }
-
 pub loop-x-preserved : goal.loop-x-preserved
 loop-x-preserved g c =
     let inv = c.loop-x.invariant in
@@ -56,11 +34,7 @@ loop-x-preserved g c =
           (λ a b. step.ensures.agree b (c.put.ensures.whole (inv.3 a)) (inv.4 a)),
     )
 
-pub returns : goal.returns
-returns g c =
-    let inv = c.loop-x.invariant in
-    record {
-      grows = inv.0;
-      closed = λ e. closed_all c.args.sides.now.tables.places.now c.args.sides.now.tables.slots.now c.args.sides.now.ordered 0 0 c.args.links.now c.loop-x.links (λ k l. inv.4 e k (omega (arith, c.loop-x-test.false)));
-      tells = inv.1;
-    }
+pub returns-clause-closed : goal.returns-clause-closed
+returns-clause-closed g c e =
+    closed_all c.args.sides.now.tables.places.now c.args.sides.now.tables.slots.now c.args.sides.now.ordered c.loop-x.links
+    (λ k l. c.loop-x.invariant.4 e k (omega (arith, c.loop-x-test.false)))

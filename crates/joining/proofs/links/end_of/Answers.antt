@@ -11,15 +11,11 @@ loop-at-preserved c =
     rw read
     (omega (arith, c.requires.forest c.loop-at.at), end_step c.args.links.now c.requires.forest c.loop-at.at ∙ c.loop-at.invariant.1)
 
-pub returns : goal.returns
-returns c =
+pub returns-clause-found : goal.returns-clause-found
+returns-clause-found c =
     let rests : link c.args.links.now c.loop-at.at ≡ c.loop-at.at =
     get_or_default c.args.links.now c.loop-at.at c.loop-at.at 0 (omega arith) ∙ c.loop-at-test.false in
-    record {
-      found = sym (end_stays c.args.links.now c.requires.forest c.loop-at.at rests) ∙ c.loop-at.invariant.1;
-      below = c.loop-at.invariant.0;
-      rests = rests;
-    }
+    sym (end_stays c.args.links.now c.requires.forest c.loop-at.at rests) ∙ c.loop-at.invariant.1
 
 pub loop-at-smaller : goal.loop-at-smaller
 loop-at-smaller c =

@@ -1,4 +1,4 @@
-use Rattle.std.proofs.Common.{ℕ, ◌↔◌, sym, subst, arith}
+use Rattle.std.proofs.Common.{ℕ, ◌↔◌, sym, subst}
 use Rattle.records.specs.Tables.{Edge}
 use Rattle.joining.specs.Forest.{Same}
 use Rattle.joining.specs.Closure.{Closure, Pair}
@@ -10,22 +10,7 @@ invariant_of-unify g c =
     let two = c.requires.two in
     record { ordered = beside_ordered two.s two.t (record { places = c.args.tables.places.now; slots = c.args.tables.slots.now }) two.formed_s two.formed_t two.beside }
 
-pub unify-requires : goal.unify-requires
-unify-requires g c =
-    let two = c.requires.two in
-    record {
-      room = c.requires.room;
-      own = c.requires.own;
-      within = (
-        omega (arith, two.beside.places, two.formed_s.rooted),
-        omega (arith, two.beside.places, two.formed_t.rooted, two.from),
-      );
-    }
-
-pub returns : goal.returns
-returns g c = record {
-  forest = c.unify.ensures.forest;
-  joined = λ two.
-      joined_ends two.s two.t (record { places = c.args.tables.places.now; slots = c.args.tables.slots.now }) two.formed_s two.formed_t two.beside c.unify.new.links
-      (subst (λ (k : ℕ). (x y : ℕ) → Same c.unify.new.links x y ↔ Closure (Edge c.args.tables.places.now c.args.tables.slots.now) (Pair 0 k) x y) (sym two.from) c.unify.ensures.least);
-}
+pub returns-clause-joined : goal.returns-clause-joined
+returns-clause-joined g c two =
+    joined_ends two.s two.t (record { places = c.args.tables.places.now; slots = c.args.tables.slots.now }) two.formed_s two.formed_t two.beside c.unify.new.links
+    (subst (λ (k : ℕ). (x y : ℕ) → Same c.unify.new.links x y ↔ Closure (Edge c.args.tables.places.now c.args.tables.slots.now) (Pair 0 k) x y) (sym two.from) c.unify.ensures.least)
