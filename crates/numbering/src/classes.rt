@@ -12,6 +12,7 @@ use records::Tables;
 pub(crate) struct Classes<'a, F> {
     pub(crate) tables: Tables<'a, F>,
     pub(crate) ends: &'a [u16],
+    // There is no heap here, so the lists are links in two arrays of fixed size.
     pub(crate) last: [Option<u16>; LIMIT],
     pub(crate) previous: [Option<u16>; LIMIT],
     ghost graph: { Graph tables.places.now tables.slots.now (at ends.now) },
