@@ -24,15 +24,12 @@ fn nanoseconds(
     second: &Sheet<'_, Catalogue>,
 ) -> anyhow::Result<u128> {
     job.open();
-    if job.add(&[], first).is_err() {
-        return Err(anyhow!("a sheet that was refused"));
-    }
+    job.add(&[], first)
+        .map_err(|_| anyhow!("a sheet that was refused"))?;
     let start = Instant::now(rt)?;
     let merged = job.add(&[], second);
     let took = start.elapsed(rt)?;
-    if merged.is_err() {
-        return Err(anyhow!("a merge that was refused"));
-    }
+    merged.map_err(|_| anyhow!("a merge that was refused"))?;
     Ok(took.as_nanos())
 }
 
@@ -43,20 +40,8 @@ fn shortest(
     first: &Table,
     second: &Table,
 ) -> anyhow::Result<u128> {
-    let mut one: Sheet<'_, Catalogue> = Sheet::empty();
-    let mut other: Sheet<'_, Catalogue> = Sheet::empty();
-    let places = first.places.as_slice();
-    let slots = first.slots.as_slice();
-    let checked = one.check(places, slots, places.len(), slots.len());
-    if checked.is_err() {
-        return Err(anyhow!("a table that is no sheet"));
-    }
-    let places = second.places.as_slice();
-    let slots = second.slots.as_slice();
-    let checked = other.check(places, slots, places.len(), slots.len());
-    if checked.is_err() {
-        return Err(anyhow!("a table that is no sheet"));
-    }
+    let one = first.sheet()?;
+    let other = second.sheet()?;
     let mut best = nanoseconds(rt, job, &one, &other)?;
     for _ in 1..ROUNDS {
         best = best.min(nanoseconds(rt, job, &one, &other)?);
@@ -81,8 +66,7 @@ fn measure(rt: &HostRuntime, title: &str, first: &Table, second: &Table) -> anyh
         &mut []
     );
     let micros = shortest(rt, &mut job, first, second)? / 1000;
-    let counts = job.counts();
-    let merged = counts.places;
+    let merged = job.counts().places;
     println!(rt; "{title:<28}{micros:>8} microseconds; places merged: {merged}")?;
     Ok(())
 }
@@ -104,12 +88,8 @@ fn run(rt: &HostRuntime) -> anyhow::Result<()> {
 
 // Whether the program was started with the one word `run`.
 fn asked(rt: &HostRuntime) -> anyhow::Result<bool> {
-    let mut args = env::args(rt)?;
-    let _ = args.next();
-    match args.next() {
-        Some(word) => Ok(word.as_str() == "run"),
-        None => Ok(false),
-    }
+    let word = env::args(rt)?.nth(1);
+    Ok(word.is_some_and(|word| word.as_str() == "run"))
 }
 
 fn main(rt: HostRuntime) -> anyhow::Result<()> {

@@ -2,13 +2,15 @@
 ghost use Rattle.std.specs.Prelude.{◌≡◌, ◌<◌, ◌≤◌, IfOk, Some};
 ghost use Rattle.names.specs.Names.{NumberOf};
 
-use anyhow::anyhow;
+use anyhow::{Context, anyhow};
 use kinds::catalogue::Catalogue;
 use kinds::kind::Kind;
 use names::number::number_of;
 use records::{PlaceRecord, SlotRecord};
+use sheets::sheet::Sheet;
 use std::alloc::Global;
 
+// A sheet as it is put together, place by place. (Its like in the program `join` cannot be shared: library crates have no heap.)
 #[derive(Drop)]
 pub struct Table {
     pub places: Vec<PlaceRecord<u8>>,
@@ -19,10 +21,8 @@ pub struct Table {
 fn slot(word: &str, target: u16) -> anyhow::Result<SlotRecord>
     ensures { IfOk result (λ s. NumberOf word.now (Some s.name) × (s.target ≡ target)) }
 {
-    match number_of(word.as_bytes()) {
-        Some(name) => Ok(SlotRecord { name, target }),
-        None => Err(anyhow!("a word that is no name")),
-    }
+    let name = number_of(word.as_bytes()).context("a word that is no name")?;
+    Ok(SlotRecord { name, target })
 }
 
 impl Table {
@@ -37,9 +37,8 @@ impl Table {
     fn place(&mut self, slots: &[SlotRecord]) -> anyhow::Result<()> {
         let before = u16::try_from(self.slots.len())?;
         let count = u16::try_from(slots.len())?;
-        let kind = Catalogue::greatest().store();
         self.places.push(PlaceRecord {
-            kind,
+            kind: Catalogue::greatest().store(),
             before,
             count,
         })?;
@@ -47,6 +46,17 @@ impl Table {
             self.slots.push(*slot)?;
         }
         Ok(())
+    }
+
+    // The sheet that the records are.
+    pub fn sheet(&self) -> anyhow::Result<Sheet<'_, Catalogue>> {
+        let places = self.places.as_slice();
+        let slots = self.slots.as_slice();
+        let mut sheet = Sheet::empty();
+        sheet
+            .check(places, slots, places.len(), slots.len())
+            .map_err(|_| anyhow!("a table that is no sheet"))?;
+        Ok(sheet)
     }
 }
 

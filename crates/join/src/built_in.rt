@@ -8,10 +8,8 @@ use std::alloc::Global;
 
 // The kind of a place that holds volts.
 fn volts(low: i32, high: i32) -> anyhow::Result<OrderKind> {
-    match Range::new(low, high) {
-        Ok(range) => Ok(Either::Second(range)),
-        Err(_) => Err(anyhow!("a range that is none")),
-    }
+    let range = Range::new(low, high).map_err(|_| anyhow!("a range that is none"))?;
+    Ok(Either::Second(range))
 }
 
 // (any north (outside_striker volts ([24..48])) south (striking volts ([12..24])))

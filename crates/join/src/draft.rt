@@ -2,13 +2,14 @@
 ghost use Rattle.std.specs.Prelude.{IfOk, Some};
 ghost use Rattle.names.specs.Names.{NumberOf};
 
-use anyhow::anyhow;
+use anyhow::{Context, anyhow};
 use either_kind::either::{Either, EitherForm};
 use kinds::catalogue::Catalogue;
 use kinds::kind::Kind;
 use names::number::number_of;
 use ranges::range::{Range, RangeForm};
 use records::{PlaceRecord, SlotRecord};
+use sheets::sheet::Sheet;
 use std::alloc::Global;
 
 // The kinds of the program: a kind of the catalogue, a range, or any.
@@ -27,10 +28,7 @@ pub struct Draft {
 fn name_of(word: &str) -> anyhow::Result<u64>
     ensures { IfOk result (λ n. NumberOf word.now (Some n)) }
 {
-    match number_of(word.as_bytes()) {
-        Some(number) => Ok(number),
-        None => Err(anyhow!("a word that is no name")),
-    }
+    number_of(word.as_bytes()).context("a word that is no name")
 }
 
 // The numbers of the names of a path.
@@ -61,9 +59,8 @@ impl Draft {
     fn begin(&mut self, kind: OrderKind, slots: usize) -> anyhow::Result<()> {
         let before = u16::try_from(self.slots.len())?;
         let count = u16::try_from(slots)?;
-        let kind = kind.store();
         self.places.push(PlaceRecord {
-            kind,
+            kind: kind.store(),
             before,
             count,
         })?;
@@ -78,11 +75,23 @@ impl Draft {
     // Puts a place behind the others. Each slot is a name and the number of the place that it leads to.
     pub fn place(&mut self, kind: OrderKind, slots: &[(&str, u16)]) -> anyhow::Result<()> {
         self.begin(kind, slots.len())?;
-        for slot in slots {
-            let name = name_of(slot.0)?;
-            let target = slot.1;
-            self.slots.push(SlotRecord { name, target })?;
+        for (word, target) in slots {
+            self.slots.push(SlotRecord {
+                name: name_of(word)?,
+                target: *target,
+            })?;
         }
         Ok(())
+    }
+
+    // The sheet that the records are.
+    pub fn sheet(&self) -> anyhow::Result<Sheet<'_, OrderKind>> {
+        let places = self.places.as_slice();
+        let slots = self.slots.as_slice();
+        let mut sheet = Sheet::empty();
+        sheet
+            .check(places, slots, places.len(), slots.len())
+            .map_err(|_| anyhow!("a table that is no sheet"))?;
+        Ok(sheet)
     }
 }

@@ -5,14 +5,12 @@
 use self::built_in::{strikers, tied_volts};
 use self::draft::{Draft, OrderKind, path_of};
 use self::standing::print_standing;
-use self::text::reply_text;
-use anyhow::anyhow;
+use self::text::Reply;
 use either_kind::either::Either;
 use jobs::{Job, job_over};
 use kinds::catalogue::Catalogue;
 use kinds::kind::Kind;
 use records::{no_place, no_slot};
-use sheets::sheet::Sheet;
 
 mod built_in;
 mod draft;
@@ -28,17 +26,10 @@ fn step(
     draft: &Draft,
 ) -> anyhow::Result<()> {
     let names = path_of(rt.alloc(), path)?;
-    let places = draft.places.as_slice();
-    let slots = draft.slots.as_slice();
-    let mut sheet: Sheet<'_, OrderKind> = Sheet::empty();
-    let checked = sheet.check(places, slots, places.len(), slots.len());
-    if checked.is_err() {
-        return Err(anyhow!("a table that is no sheet"));
-    }
-    let reply = job.add(names.as_slice(), &sheet);
-    let text = reply_text(rt.alloc(), reply)?;
+    let sheet = draft.sheet()?;
+    let reply = Reply(job.add(names.as_slice(), &sheet));
     println!(rt; "{asked}")?;
-    println!(rt; "{text}")?;
+    println!(rt; "{reply}")?;
     print_standing(rt, job)
 }
 
