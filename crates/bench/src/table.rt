@@ -6,7 +6,7 @@ use anyhow::{Context, anyhow};
 use kinds::catalogue::Catalogue;
 use kinds::kind::Kind;
 use names::number::number_of;
-use records::{PlaceRecord, SlotRecord};
+use records::{PlaceRecord, SlotRecord, Tables};
 use sheets::sheet::Sheet;
 use std::alloc::Global;
 
@@ -50,11 +50,13 @@ impl Table {
 
     // The sheet that the records are.
     pub fn sheet(&self) -> anyhow::Result<Sheet<'_, Catalogue>> {
-        let places = self.places.as_slice();
-        let slots = self.slots.as_slice();
+        let tables = Tables {
+            places: &self.places,
+            slots: &self.slots,
+        };
         let mut sheet = Sheet::empty();
         sheet
-            .check(places, slots, places.len(), slots.len())
+            .check(tables, tables.counts())
             .map_err(|_| anyhow!("a table that is no sheet"))?;
         Ok(sheet)
     }

@@ -8,7 +8,7 @@ use kinds::catalogue::Catalogue;
 use kinds::kind::Kind;
 use names::number::number_of;
 use ranges::range::{Range, RangeForm};
-use records::{PlaceRecord, SlotRecord};
+use records::{PlaceRecord, SlotRecord, Tables};
 use sheets::sheet::Sheet;
 use std::alloc::Global;
 
@@ -86,11 +86,13 @@ impl Draft {
 
     // The sheet that the records are.
     pub fn sheet(&self) -> anyhow::Result<Sheet<'_, OrderKind>> {
-        let places = self.places.as_slice();
-        let slots = self.slots.as_slice();
+        let tables = Tables {
+            places: &self.places,
+            slots: &self.slots,
+        };
         let mut sheet = Sheet::empty();
         sheet
-            .check(places, slots, places.len(), slots.len())
+            .check(tables, tables.counts())
             .map_err(|_| anyhow!("a table that is no sheet"))?;
         Ok(sheet)
     }

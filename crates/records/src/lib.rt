@@ -89,6 +89,17 @@ pub struct Tables<'a, F> {
 }
 
 impl<'a, F: Copy> Tables<'a, F> {
+    // How many places and slots the tables have.
+    pub fn counts(&self) -> Counts
+        ensures places { result.places ≡ length self.now.places.now }
+        ensures slots { result.slots ≡ length self.now.slots.now }
+    {
+        Counts {
+            places: self.places.len(),
+            slots: self.slots.len(),
+        }
+    }
+
     // The slots of the place `p`, as far as the table of slots reaches.
     pub fn slots_of(&self, p: usize) -> &'a [SlotRecord]
         ensures { result.now ≡ take (count_at self.now.places.now p) (drop (first_at self.now.places.now p) self.now.slots.now) }

@@ -26,5 +26,5 @@ pub fn renumber<F: Copy>(
     }
     let mut ends = [0u16; MOST_PLACES];
     own_numbers(&mut ends);
-    Some(number(draft.places, draft.slots, &ends, outp, outs))
+    Some(number(draft, &ends, outp, outs))
 }
