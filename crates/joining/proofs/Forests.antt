@@ -137,7 +137,7 @@ link_up links forest x y lo hi ex ey below within =
     (linked_merges links forest lo hi below within low high x y (sym ex) (sym ey), linked_less links forest lo hi below within low high)
 
 -- one write of the lower end over the higher makes the two one, and changes nothing where they are one
-pub ends_joined : (links : List ℕ) → Forest links → (x y a b lo hi : ℕ) → a ≡ end links x → b ≡ end links y → lo ≡ min a b → hi ≡ max a b → hi < length links
+ends_joined : (links : List ℕ) → Forest links → (x y a b lo hi : ℕ) → a ≡ end links x → b ≡ end links y → lo ≡ min a b → hi ≡ max a b → hi < length links
     → Merges links (set links hi (get_or links lo 0)) x y × Tells (not (nat_eq a b)) links (set links hi (get_or links lo 0))
 ends_joined links forest x y a b lo hi ea eb el eh within =
     ⊎_elim one (⊎_elim less more) (cases_order a b)
@@ -168,3 +168,11 @@ ends_joined links forest x y a b lo hi ea eb el eh within =
     more l =
         let h = link_up links forest y x lo hi (omega arith) (omega arith) (omega arith) within in
         (merges_turned h.0, rw (ne_eqb a b (λ e. omega arith)) h.1)
+
+pub ends_merged : (links : List ℕ) → Forest links → (x y a b lo hi : ℕ) → a ≡ end links x → b ≡ end links y → lo ≡ min a b → hi ≡ max a b → hi < length links
+    → Merges links (set links hi (get_or links lo 0)) x y
+ends_merged links forest x y a b lo hi ea eb el eh within = (ends_joined links forest x y a b lo hi ea eb el eh within).0
+
+pub ends_told : (links : List ℕ) → Forest links → (x y a b lo hi : ℕ) → a ≡ end links x → b ≡ end links y → lo ≡ min a b → hi ≡ max a b → hi < length links
+    → Tells (not (nat_eq a b)) links (set links hi (get_or links lo 0))
+ends_told links forest x y a b lo hi ea eb el eh within = (ends_joined links forest x y a b lo hi ea eb el eh within).1
