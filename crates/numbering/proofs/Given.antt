@@ -24,19 +24,8 @@ module _ (o : List ℕ) (number : List (Option ℕ)) (known : Known o number) wh
   ordered : (n : ℕ) → length number ≡ n → Order n o
   ordered n long =
       record {
-        apart = λ i j l h e.
-            let a = known i (omega arith) in
-            let b : link number (at o i) ≡ Some j = ap (link number) e ∙ known j h in
-            let same : i ≡ j = cc in
-            omega arith;
-        inside = λ j h.
-            elim (dec_lt (at o j) n) [
-              | yes lt ↦ lt
-              | no ge ↦
-                  let a = known j h in
-                  let none : link number (at o j) ≡ None = get_or_past number (at o j) None (omega arith) in
-                  absurd cc
-            ];
+        apart = λ i j l h e. grind (arith, known i, known j);
+        inside = λ j h. grind (arith, known j, get_or_past number (at o j) None);
       }
 
   module _ (v : ℕ) (free : link number v ≡ None) where
@@ -58,14 +47,8 @@ module _ (o : List ℕ) (number : List (Option ℕ)) (known : Known o number) wh
 
     pub known_more : v < length number → Known (o ++ v ∷ []) (set number v (Some (length o)))
     known_more h k l =
-        elim (dec_lt k (length o)) [
-          | yes lt ↦
-              let old : at (o ++ v ∷ []) k ≡ at o k = get_or_append_left o (v ∷ []) 0 k lt in
-              ap (link (set number v (Some (length o)))) old ∙ get_or-set_other number v (at o k) (Some (length o)) None (unknown k lt) ∙ known k lt
-          | no ge ↦
-              let e : length o ≡ k = omega (arith, length_push o v) in
-              ap (link (set number v (Some (length o)))) (get_or_push o v 0 k e) ∙ get_or-set_same number v (Some (length o)) None h ∙ ap (λ (i : ℕ). Some i) e
-        ]
+        grind (arith, length_push o v, get_or_append_left o (v ∷ []) 0 k, get_or_push o v 0 k, get_or-set_other number v (at o k) (Some (length o)) None,
+        get_or-set_same number v (Some (length o)) None, unknown k, known k)
 
     pub only_more : v < length number → Only o number → Only (o ++ v ∷ []) (set number v (Some (length o)))
     only_more h only u k s =
