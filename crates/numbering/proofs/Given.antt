@@ -52,16 +52,11 @@ module _ (o : List ℕ) (number : List (Option ℕ)) (known : Known o number) wh
 
     pub only_more : v < length number → Only o number → Only (o ++ v ∷ []) (set number v (Some (length o)))
     only_more h only u k s =
-        elim (ℕ_discrete u v) [
-          | yes e ↦
-              let there : Some (length o) ≡ Some k =
-              sym (get_or-set_same number v (Some (length o)) None h) ∙ ap (link (set number v (Some (length o)))) (sym e) ∙ s in
-              let z : length o ≡ k = cc in
-              (omega (arith, length_push o v), get_or_push o v 0 k z ∙ sym e)
-          | no ne ↦
-              let w = only u k (sym (get_or-set_other number v u (Some (length o)) None ne) ∙ s) in
-              (omega (arith, w.0, length_push o v), get_or_append_left o (v ∷ []) 0 k w.0 ∙ w.1)
-        ]
+        let same = get_or-set_same number v (Some (length o)) None h in
+        let other = get_or-set_other number v u (Some (length o)) None in (
+          grind (arith, length_push o v, same, other, only u k),
+          grind (arith, same, other, only u k, get_or_append_left o (v ∷ []) 0 k, get_or_push o v 0 k),
+        )
 
 -- one number is given
 module _ (n v : ℕ) (h : v < n) where
