@@ -1,7 +1,7 @@
 -- The numbers given so far.
 use Rattle.std.proofs.Common.{◌≡◌, ℕ, ◌<◌, List, [], ◌∷◌, ◌++◌, length, replicate, set, sym, refl, ap, ◌∙◌, ◌≢◌, arith}
 use Rattle.std.specs.Prelude.{Option, Some, None}
-use native.Mathlib.Decide.{dec_lt, ℕ_discrete}
+use native.Mathlib.Decide.{dec_lt}
 use Rattle.std.proofs.lemmas.List.{get_or_append_left, get_or_push, length_push, get_or-set_same, get_or-set_other, get_or-replicate, length-replicate, get_or_past}
 use Rattle.numbering.specs.Quotient.{at}
 use Rattle.numbering.specs.Classes.{link}
@@ -47,8 +47,16 @@ module _ (o : List ℕ) (number : List (Option ℕ)) (known : Known o number) wh
 
     pub known_more : v < length number → Known (o ++ v ∷ []) (set number v (Some (length o)))
     known_more h k l =
-        grind (arith, length_push o v, get_or_append_left o (v ∷ []) 0 k, get_or_push o v 0 k, get_or-set_other number v (at o k) (Some (length o)) None,
-        get_or-set_same number v (Some (length o)) None, unknown k, known k)
+        grind (
+          arith,
+          length_push o v,
+          get_or_append_left o (v ∷ []) 0 k,
+          get_or_push o v 0 k,
+          get_or-set_other number v (at o k) (Some (length o)) None,
+          get_or-set_same number v (Some (length o)) None,
+          unknown k,
+          known k,
+        )
 
     pub only_more : v < length number → Only o number → Only (o ++ v ∷ []) (set number v (Some (length o)))
     only_more h only u k s =
