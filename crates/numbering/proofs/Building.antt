@@ -1,6 +1,5 @@
 -- A well formed sheet is made by pushing the slots of a place, then the place, and so on.
-use Rattle.std.proofs.Common.{◌≡◌, ℕ, zero, suc, ◌+◌, ◌-◌, ◌<◌, ◌≤◌, List, [], ◌∷◌, ◌++◌, length, sym, refl, ap, ◌∙◌, arith}
-use native.Mathlib.Decide.{dec_lt}
+use Rattle.std.proofs.Common.{◌≡◌, ℕ, zero, suc, ◌+◌, ◌-◌, ◌<◌, ◌≤◌, List, [], ◌∷◌, ◌++◌, length, sym, refl, arith}
 use Rattle.std.proofs.lemmas.List.{length_push}
 use Rattle.records.specs.declared.PlaceRecord.{PlaceRecord}
 use Rattle.records.specs.declared.SlotRecord.{SlotRecord}
@@ -34,80 +33,28 @@ module _ {F : Type 0} where
           first = g.first;
           running = g.running;
           last = g.last;
-          ends = g.ends;
-          rising = λ p i h k l.
-              let e : suc i < length ss = omega (arith, g.ends p h, g.begins) in
-              omega (arith, name_old ss x i (omega arith), name_old ss x (suc i) e, g.rising p i h k l);
-          here = λ i h k.
-              elim (dec_lt (suc i) (length ss)) [
-                | yes lt ↦ omega (arith, name_old ss x i (omega arith), name_old ss x (suc i) lt, g.here i h lt)
-                | no ge ↦
-                    let e : i ≡ length ss - 1 = omega arith in
-                    let e' : suc i ≡ length ss = omega arith in
-                    omega (arith, name_old ss x i (omega arith), name_new ss x (suc i) e', ap (name_at ss) e, up (omega arith))
-              ];
-          begun = λ p h. rw (met_old ss x (first_at ps p) (omega (arith, g.ends p h, g.begins))) (g.begun p h);
-          close = λ i h.
-              elim (dec_lt i (length ss)) [
-                | yes lt ↦ omega (arith, target_old ss x i lt, met_old ss x i (omega arith), g.close i lt)
-                | no ge ↦
-                    let e : i ≡ length ss = omega arith in
-                    omega (arith, target_new ss x i e, met_old ss x i (omega arith), ap (met ss) e, near)
-              ];
+          ends = λ p h. omega (arith, g.ends p h);
+          rising = λ p i h k l. grind (arith, g.ends p h, g.begins, g.rising p i h k l, name_old ss x i, name_old ss x (suc i));
+          here = λ i h k. grind (arith, g.here i h, name_old ss x i, name_old ss x (suc i), name_new ss x (suc i), up);
+          begun = λ p h. grind (arith, g.ends p h, g.begins, g.begun p h, met_old ss x (first_at ps p));
+          close = λ i h. grind (arith, g.close i, target_old ss x i, target_new ss x i, met_old ss x i, near);
         }
 
     pub push_place : (x : PlaceRecord F) → x.before ≡ b → x.before + x.count ≡ length ss → length ps < met ss b → Building (ps ++ x ∷ []) ss (length ss)
     push_place x from to soon =
+        let long = length_push ps x in
         record {
           begins = omega arith;
           none = λ e. absurd (omega (arith, long));
-          first = λ h.
-              elim (dec_lt 0 (length ps)) [
-                | yes lt ↦ first_old ps x 0 lt ∙ g.first lt
-                | no ge ↦ first_new ps x 0 (omega arith) ∙ from ∙ g.none (omega arith)
-              ];
-          running = λ p h.
-              elim (dec_lt (suc p) (length ps)) [
-                | yes lt ↦ omega (arith, first_old ps x (suc p) lt, first_old ps x p (omega arith), count_old ps x p (omega arith), g.running p lt)
-                | no ge ↦
-                    let e : suc p ≡ length ps = omega (arith, long) in
-                    omega (arith, first_new ps x (suc p) e, first_old ps x p (omega arith), count_old ps x p (omega arith), g.last p e)
-              ];
-          last = λ p e.
-              let e' : p ≡ length ps = omega (arith, long) in
-              omega (arith, g.begins, first_new ps x p e', count_new ps x p e');
-          ends = λ p h.
-              elim (dec_lt p (length ps)) [
-                | yes lt ↦ omega (arith, first_old ps x p lt, count_old ps x p lt, g.ends p lt, g.begins)
-                | no ge ↦
-                    let e : p ≡ length ps = omega (arith, long) in
-                    omega (arith, g.begins, first_new ps x p e, count_new ps x p e)
-              ];
-          rising = λ p i h l m.
-              elim (dec_lt p (length ps)) [
-                | yes lt ↦
-                    let a = first_old ps x p lt in
-                    let a' = count_old ps x p lt in
-                    g.rising p i lt (omega arith) (omega arith)
-                | no ge ↦
-                    let e : p ≡ length ps = omega (arith, long) in
-                    let a = first_new ps x p e in
-                    let a' = count_new ps x p e in
-                    g.here i (omega arith) (omega (arith, g.begins))
-              ];
+          first = λ h. grind (arith, first_old ps x 0, first_new ps x 0, g.first, g.none, from);
+          running = λ p h. grind (arith, long, first_old ps x (suc p), first_new ps x (suc p), first_old ps x p, count_old ps x p, g.running p, g.last p, from);
+          last = λ p e. grind (arith, long, first_new ps x p, count_new ps x p, to);
+          ends = λ p h. grind (arith, long, first_old ps x p, count_old ps x p, g.ends p, g.begins, first_new ps x p, count_new ps x p, to);
+          rising = λ p i h l m. grind (arith, long, first_old ps x p, count_old ps x p, first_new ps x p, count_new ps x p, g.rising p i, g.here i, from, to);
           here = λ i h k. absurd (omega arith);
-          begun = λ p h.
-              elim (dec_lt p (length ps)) [
-                | yes lt ↦ rw (first_old ps x p lt) (g.begun p lt)
-                | no ge ↦
-                    let e : p ≡ length ps = omega (arith, long) in
-                    rw (first_new ps x p e, e, from) soon
-              ];
+          begun = λ p h. grind (arith, long, first_old ps x p, first_new ps x p, g.begun p, from, soon);
           close = g.close;
         }
-      where
-        long : length (ps ++ x ∷ []) ≡ length ps + 1
-        long = length_push ps x
 
 some_met : (ss : List SlotRecord) (i : ℕ) → 0 < met ss i
 some_met ss zero = omega arith

@@ -1,7 +1,7 @@
 -- The numbers given so far.
 use Rattle.std.proofs.Common.{◌≡◌, ℕ, ◌<◌, List, [], ◌∷◌, ◌++◌, length, replicate, set, sym, refl, ap, ◌∙◌, ◌≢◌, arith}
 use Rattle.std.specs.Prelude.{Option, Some, None}
-use native.Mathlib.Decide.{dec_lt, ℕ_discrete}
+use native.Mathlib.Decide.{dec_lt}
 use Rattle.std.proofs.lemmas.List.{get_or_append_left, get_or_push, length_push, get_or-set_same, get_or-set_other, get_or-replicate, length-replicate, get_or_past}
 use Rattle.numbering.specs.Quotient.{at}
 use Rattle.numbering.specs.Classes.{link}
@@ -24,19 +24,8 @@ module _ (o : List ℕ) (number : List (Option ℕ)) (known : Known o number) wh
   ordered : (n : ℕ) → length number ≡ n → Order n o
   ordered n long =
       record {
-        apart = λ i j l h e.
-            let a = known i (omega arith) in
-            let b : link number (at o i) ≡ Some j = ap (link number) e ∙ known j h in
-            let same : i ≡ j = cc in
-            omega arith;
-        inside = λ j h.
-            elim (dec_lt (at o j) n) [
-              | yes lt ↦ lt
-              | no ge ↦
-                  let a = known j h in
-                  let none : link number (at o j) ≡ None = get_or_past number (at o j) None (omega arith) in
-                  absurd cc
-            ];
+        apart = λ i j l h e. grind (arith, known i, known j);
+        inside = λ j h. grind (arith, known j, get_or_past number (at o j) None);
       }
 
   module _ (v : ℕ) (free : link number v ≡ None) where
@@ -58,27 +47,24 @@ module _ (o : List ℕ) (number : List (Option ℕ)) (known : Known o number) wh
 
     pub known_more : v < length number → Known (o ++ v ∷ []) (set number v (Some (length o)))
     known_more h k l =
-        elim (dec_lt k (length o)) [
-          | yes lt ↦
-              let old : at (o ++ v ∷ []) k ≡ at o k = get_or_append_left o (v ∷ []) 0 k lt in
-              ap (link (set number v (Some (length o)))) old ∙ get_or-set_other number v (at o k) (Some (length o)) None (unknown k lt) ∙ known k lt
-          | no ge ↦
-              let e : length o ≡ k = omega (arith, length_push o v) in
-              ap (link (set number v (Some (length o)))) (get_or_push o v 0 k e) ∙ get_or-set_same number v (Some (length o)) None h ∙ ap (λ (i : ℕ). Some i) e
-        ]
+        grind (
+          arith,
+          length_push o v,
+          get_or_append_left o (v ∷ []) 0 k,
+          get_or_push o v 0 k,
+          get_or-set_other number v (at o k) (Some (length o)) None,
+          get_or-set_same number v (Some (length o)) None,
+          unknown k,
+          known k,
+        )
 
     pub only_more : v < length number → Only o number → Only (o ++ v ∷ []) (set number v (Some (length o)))
     only_more h only u k s =
-        elim (ℕ_discrete u v) [
-          | yes e ↦
-              let there : Some (length o) ≡ Some k =
-              sym (get_or-set_same number v (Some (length o)) None h) ∙ ap (link (set number v (Some (length o)))) (sym e) ∙ s in
-              let z : length o ≡ k = cc in
-              (omega (arith, length_push o v), get_or_push o v 0 k z ∙ sym e)
-          | no ne ↦
-              let w = only u k (sym (get_or-set_other number v u (Some (length o)) None ne) ∙ s) in
-              (omega (arith, w.0, length_push o v), get_or_append_left o (v ∷ []) 0 k w.0 ∙ w.1)
-        ]
+        let same = get_or-set_same number v (Some (length o)) None h in
+        let other = get_or-set_other number v u (Some (length o)) None in (
+          grind (arith, length_push o v, same, other, only u k),
+          grind (arith, same, other, only u k, get_or_append_left o (v ∷ []) 0 k, get_or_push o v 0 k),
+        )
 
 -- one number is given
 module _ (n v : ℕ) (h : v < n) where

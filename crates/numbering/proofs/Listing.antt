@@ -1,7 +1,7 @@
 -- The lists of the classes, made from the first place up.
 use Rattle.std.proofs.Common.{◌≡◌, ℕ, ◌+◌, ◌<◌, ◌≤◌, List, length, set, sym, refl, ap, ◌∙◌, subst, arith}
 use Rattle.std.specs.Prelude.{Option, Some, None}
-use native.Mathlib.Decide.{dec_lt, ℕ_discrete}
+use native.Mathlib.Decide.{ℕ_discrete}
 use Rattle.std.proofs.lemmas.List.{get_or-set_same, get_or-set_other}
 use Rattle.numbering.specs.Classes.{link, past, Last, Listed}
 
@@ -18,22 +18,13 @@ module _ {c : ℕ → ℕ} where
   listed_more {n = n} {x = x} {last = last} {previous = previous} x_in v_in long_l long_p g =
       record {
         starts = λ u h.
-            elim (ℕ_discrete u (c x)) [
-              | yes e ↦
-                  let here : link (set last (c x) (Some x)) u ≡ Some x = ap (link (set last (c x) (Some x))) e ∙ get_or-set_same last (c x) (Some x) None (omega arith) in
-                  subst (Last c u (x + 1)) (sym here) (record { is = λ y s. let z : x ≡ y = cc in (omega arith, ap c (sym z) ∙ sym e); gap = λ y l s. l })
-              | no ne ↦
-                  let old = g.starts u h in
-                  subst (Last c u (x + 1)) (sym (get_or-set_other last (c x) u (Some x) None ne))
-                  (record {
-                    is = λ y s. let z = old.is y s in (omega (arith, z.0), z.1);
-                    gap = λ y l s.
-                        elim (dec_lt y x) [
-                          | yes lt ↦ old.gap y lt s
-                          | no ge ↦ let e : y ≡ x = omega arith in absurd (ne (sym s ∙ ap c e))
-                        ];
-                  })
-            ];
+            let same = get_or-set_same last (c x) (Some x) None (omega arith) in
+            let other = get_or-set_other last (c x) u (Some x) None in
+            let old = g.starts u h in
+            record {
+              is = λ y s. (grind (arith, same, other, old.is y), grind (arith, same, other, old.is y));
+              gap = λ y l s. grind (arith, same, other, old.gap y, past);
+            };
         steps = λ y h.
             elim (ℕ_discrete y x) [
               | yes e ↦

@@ -44,19 +44,15 @@ module _ {K F : Type 0} (s t : Sheet K) (v : Sheet F) (fs : Formed s) (ft : Form
             sym (g.one x (c x) k (g.inside x k) (g.member x k));
         aimed = aims b fs ft;
         own = λ x y i a d.
-            elim (dec_lt x (size s)) [
-              | yes lt ↦
-                  elim (dec_lt y (size s)) [
-                    | yes lt' ↦ owner_one s fs i x y (left_owns b fs ft x i lt a).0 (left_owns b fs ft y i lt' d).0
-                    | no ge' ↦ absurd (omega (arith, (left_owns b fs ft x i lt a).1, (right_owns b fs ft y i (omega arith) d).1))
-                  ]
-              | no ge ↦
-                  elim (dec_lt y (size s)) [
-                    | yes lt' ↦ absurd (omega (arith, (left_owns b fs ft y i lt' d).1, (right_owns b fs ft x i (omega arith) a).1))
-                    | no ge' ↦
-                        omega (arith, owner_one t ft (i - width s) (x - size s) (y - size s) (right_owns b fs ft x i (omega arith) a).0 (right_owns b fs ft y i (omega arith) d).0)
-                  ]
-            ];
+            grind (
+              arith,
+              left_owns b fs ft x i,
+              left_owns b fs ft y i,
+              right_owns b fs ft x i,
+              right_owns b fs ft y i,
+              owner_one s fs i x y,
+              owner_one t ft (i - width s) (x - size s) (y - size s),
+            );
         rising = rising b fs ft;
         closed = λ x y f p q e d s'.
             g.one p q (end_in x f p e) (end_in y f q d)

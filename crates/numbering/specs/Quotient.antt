@@ -28,7 +28,7 @@ pub record Work {F : Type 0} (wp : List (PlaceRecord F)) (ws : List SlotRecord) 
   pub closed : (x y f p q : ℕ) → Edge wp ws x f p → Edge wp ws y f q → c x ≡ c y → c p ≡ c q
   pub reached : (x : ℕ) → x < length wp → Reached wp ws c x
 
--- what of this needs no way from the first place
+-- the same without the way to each place: what the writing of one class rests on
 pub record Graph {F : Type 0} (wp : List (PlaceRecord F)) (ws : List SlotRecord) (c : ℕ → ℕ) : Type 0 where
   pub rooted : 0 < length wp
   pub inside : (x : ℕ) → x < length wp → c x < length wp

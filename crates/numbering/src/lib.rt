@@ -35,7 +35,7 @@ pub fn number<F: Copy>(
     ensures within { (result.places ≤ length sides.entry.places.now) × (result.slots ≤ length sides.entry.slots.now) }
     ensures kept { (Kept result.places outp.old outp.new) × (Kept result.slots outs.old outs.new) }
 {
-    writing::write(&Classes::new(sides, ends), outp, outs)
+    Classes::new(sides, ends).write(outp, outs)
 }
 
 // What the merge of two sheets rests on: side by side, with the classes of joined places, they meet what `number` requires, and what
