@@ -1,5 +1,5 @@
 -- Tags that are marked by their numbers are those that the places describe.
-use Rattle.std.proofs.Common.{◌≡◌, ℕ, ◌-◌, Bool, true, false, cond, ◌||◌, List, [], ◌∷◌, ◌++◌, length, get_or, take, set, replicate, Some, None, Option, sym, refl, ap, ◌∙◌, ⊎_elim, arith}
+use Rattle.std.proofs.Common.{◌≡◌, ℕ, Bool, true, false, cond, ◌||◌, List, [], ◌∷◌, ◌++◌, length, get_or, set, replicate, Some, None, Option, sym, refl, ap, ◌∙◌, ⊎_elim, arith}
 use mathlib.Core.Bool.{or-false}
 use Rattle.std.specs.Option.{option_or}
 use Rattle.std.proofs.lemmas.List.{length-set, length-replicate, get_or-replicate, get_or_past, get_or-set_same, get_or-set_other}
@@ -9,8 +9,8 @@ use Rattle.reading.specs.declared.draft.Target.{Target}
 use Rattle.reading.specs.declared.draft.Target.TheVariants.{To, ByTag}
 use Rattle.reading.specs.declared.draft.Place.{Place}
 use Rattle.reading.specs.declared.draft.Slot.{Slot}
-use Rattle.reading.specs.Drafts.{Draft, any_of, numbered, described}
-use Rattle.reading.specs.Steps.{go, fault, on_some, described_at, undescribed_at, undescribed}
+use Rattle.reading.specs.Drafts.{any_of, numbered, described}
+use Rattle.reading.specs.Steps.{described_at, undescribed_at, undescribed}
 use Rattle.reading.specs.Lookups.{marked, Small, marked_at, unmarked_at, unmarked, Marks}
 
 pub any_push : {X : Type 0} (p : X → Bool) (xs : List X) (x : X) → any_of p (xs ++ x ∷ []) ≡ (any_of p xs || p x)
@@ -54,9 +54,3 @@ module _ {K : Type 0} where
       one : (t : Target) → unmarked_at t tags ≡ undescribed_at t ps
       one (To p) = refl
       one (ByTag t) = ap (λ b. cond b None (Some t.byte)) (m.same t.number)
-
-  -- a part from the start to n has n - 0 slots
-  pub referred : (ps : List (Place K)) (tags : List Bool) (ss : List Slot) (n : ℕ) (o : Option ℕ) (d : Draft K) → Marks ps tags → o ≡ unmarked (take (n - 0) ss) tags → on_some o (fault 26) (go d) ≡ on_some (undescribed (take n ss) ps) (fault 26) (go d)
-  referred ps tags ss n o d m e =
-      let all : n - 0 ≡ n = omega arith in
-      ap (λ x. on_some x (fault 26) (go d)) (e ∙ ap (λ k. unmarked (take k ss) tags) all ∙ unmarked_same ps tags (take n ss) m)
