@@ -5,7 +5,6 @@ pub mod Marking
 pub mod Listing
 pub mod Holding
 pub mod Pathing
-pub mod Verbs
 pub mod FormSteps
 pub mod FormLines
 pub mod Fronts

@@ -16,11 +16,9 @@ use vocabulary::vocabulary::Vocabulary;
 fn number_ahead(line: &[u8], from: usize) -> Option<(i32, usize)>
     ensures { (rest : ℤ → ℕ → Bool) → on_some result (λ x. rest x.0 x.1) false ≡ on_next (next_token line.now from) false (λ x i j. on_number x (λ n. rest n j) false) (λ n b. false) }
 {
-    match next_token(line, from) {
-        Ok(Some(x)) => match x.token {
-            Token::Number(n) => Some((n, x.end)),
-            _ => None,
-        },
+    let x = next_token(line, from).ok().flatten()?;
+    match x.token {
+        Token::Number(n) => Some((n, x.end)),
         _ => None,
     }
 }
@@ -29,11 +27,9 @@ fn number_ahead(line: &[u8], from: usize) -> Option<(i32, usize)>
 fn dots_ahead(line: &[u8], from: usize) -> Option<usize>
     ensures { (rest : ℕ → Bool) → on_some result rest false ≡ on_next (next_token line.now from) false (λ x i j. on_mark 46 x (rest j) false) (λ n b. false) }
 {
-    match next_token(line, from) {
-        Ok(Some(x)) => match x.token {
-            Token::Dots => Some(x.end),
-            _ => None,
-        },
+    let x = next_token(line, from).ok().flatten()?;
+    match x.token {
+        Token::Dots => Some(x.end),
         _ => None,
     }
 }
@@ -42,13 +38,13 @@ fn dots_ahead(line: &[u8], from: usize) -> Option<usize>
 fn ends_ahead(line: &[u8], from: usize) -> bool
     ensures { (rest : Bool) → (if result then rest else false) ≡ on_next (next_token line.now from) false (λ x i j. on_mark 93 x rest false) (λ n b. false) }
 {
-    match next_token(line, from) {
-        Ok(Some(x)) => match x.token {
-            Token::SquareClose => true,
-            _ => false,
-        },
-        _ => false,
-    }
+    matches!(
+        next_token(line, from),
+        Ok(Some(Lexeme {
+            token: Token::SquareClose,
+            ..
+        }))
+    )
 }
 
 // Whether a range whose low end is not above its high end is no kind.
@@ -115,10 +111,8 @@ impl<K: Kind> DraftReader<'_, K> {
         if let Some(b) = self.look.described_at(tag) {
             return Err(ReadFault::Broken(Rule::TagTwice, b));
         }
-        match V::word(word) {
-            Some(kind) => self.push_place(tag, kind, byte),
-            None => Err(ReadFault::Broken(Rule::NoKind, byte)),
-        }
+        let kind = V::word(word).ok_or(ReadFault::Broken(Rule::NoKind, byte))?;
+        self.push_place(tag, kind, byte)
     }
 
     // A kind begins by a square bracket, and the line goes on at `from`.
@@ -139,11 +133,12 @@ impl<K: Kind> DraftReader<'_, K> {
             self.cur.mode = Mode::Low(Bracket { tag, byte });
             return Ok(());
         }
-        if no_kind_ahead::<K, V>(line, from) {
-            Err(ReadFault::Broken(Rule::NoKind, byte))
+        let rule = if no_kind_ahead::<K, V>(line, from) {
+            Rule::NoKind
         } else {
-            Err(ReadFault::Broken(Rule::TooMany, byte))
-        }
+            Rule::TooMany
+        };
+        Err(ReadFault::Broken(rule, byte))
     }
 
     // The token is one that begins a kind.
@@ -173,9 +168,7 @@ impl<K: Kind> DraftReader<'_, K> {
         ensures is { came result self.new ≡ range_last V.Vocabulary.words V.Vocabulary.ranges (length self.old.places.now) «open» low high (read self.old) }
         ensures tables { SameTables self.old self.new }
     {
-        match V::range(low, high) {
-            Some(kind) => self.push_place(open.tag, kind, open.byte),
-            None => Err(ReadFault::Broken(Rule::NoKind, open.byte)),
-        }
+        let kind = V::range(low, high).ok_or(ReadFault::Broken(Rule::NoKind, open.byte))?;
+        self.push_place(open.tag, kind, open.byte)
     }
 }

@@ -26,9 +26,7 @@ impl<K: Kind> DraftReader<'_, K> {
         ensures is { came result self.new ≡ slot_named (length self.old.slots.now) word.now (read self.old) byte }
         ensures tables { SameTables self.old self.new }
     {
-        let Some(name) = number_of(word) else {
-            return Err(ReadFault::Broken(Rule::LongName, byte));
-        };
+        let name = number_of(word).ok_or(ReadFault::Broken(Rule::LongName, byte))?;
         if self.has_name(name) {
             return Err(ReadFault::Broken(Rule::NameTwice, byte));
         }

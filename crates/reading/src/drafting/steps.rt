@@ -16,11 +16,7 @@ use vocabulary::vocabulary::Vocabulary;
 fn tag_number(n: i32) -> Option<u8>
     ensures { result ≡ tag_number n }
 {
-    if n >= 1 && n <= 99 {
-        Some(n as u8)
-    } else {
-        None
-    }
+    u8::try_from(n).ok().filter(|t| (1..=99).contains(t))
 }
 
 impl<K: Kind> DraftReader<'_, K> {
@@ -44,10 +40,10 @@ impl<K: Kind> DraftReader<'_, K> {
             (Mode::Begin, Token::RoundOpen) => self.turn(Mode::Opened),
             (Mode::Opened, Token::Hash) => self.turn(Mode::Hashed),
             (Mode::Opened, _) => self.kind_first::<V>(None, x, line),
-            (Mode::Hashed, Token::Number(n)) => match tag_number(n) {
-                Some(number) => self.turn(Mode::Tagged(Tag { number, byte })),
-                None => Err(ReadFault::Broken(Rule::TagNumber, byte)),
-            },
+            (Mode::Hashed, Token::Number(n)) => {
+                let number = tag_number(n).ok_or(ReadFault::Broken(Rule::TagNumber, byte))?;
+                self.turn(Mode::Tagged(Tag { number, byte }))
+            }
             (Mode::Tagged(tag), Token::RoundClose) => {
                 self.refer_to(tag);
                 Ok(())

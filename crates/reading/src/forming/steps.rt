@@ -46,13 +46,13 @@ impl Form {
     {
         let bad = ReadFault::Broken(Rule::NotAllowed, x.start);
         match x.token {
-            Token::Word(word) => match verb_of(word) {
-                Some(verb) => Ok(Form {
+            Token::Word(word) => {
+                let verb = verb_of(word).ok_or(bad)?;
+                Ok(Form {
                     stage: after_word(verb),
                     ..self
-                }),
-                None => Err(bad),
-            },
+                })
+            }
             _ => Err(bad),
         }
     }
