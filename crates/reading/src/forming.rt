@@ -37,6 +37,7 @@ pub(crate) fn read_form_draft<K: Kind, V: Vocabulary<K>>(
         second: Path::empty(),
     };
     let mut from = 0;
+    // The loop of a draft's line again: a trait for the two would repeat in its ghost members all that `step` and `end` ensure.
     while let Some(x) = next_token(line, from)? {
         form = form.step::<K, V>(x, line, &mut place, &mut kind)?;
         from = x.end;

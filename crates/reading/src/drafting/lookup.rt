@@ -11,7 +11,8 @@ pub(crate) const MOST_PLACES: usize = 1_000;
 // The most slots of a draft.
 pub(crate) const MOST_SLOTS: usize = 4_000;
 
-// By number whether a tag is described; by place its newest slot, and by slot the one before it of the same place.
+// By number whether a tag is described; by place its newest slot, and by slot the one before it of the same place. Lists through
+// indices in fixed arrays: the library has no heap.
 #[derive(Drop)]
 pub(crate) struct Lookup {
     pub(crate) described: [bool; 256],

@@ -20,7 +20,7 @@ fn tag_number(n: i32) -> Option<u8>
 }
 
 impl<K: Kind> DraftReader<'_, K> {
-    // The same in another mode.
+    // The same in another mode, answered as the other steps answer.
     fn turn(&mut self, mode: Mode) -> Result<(), ReadFault>
         ensures is { came result self.new ≡ moved mode (read self.old) }
         ensures tables { SameTables self.old self.new }

@@ -27,15 +27,21 @@ pub(crate) enum Round {
 }
 
 impl Form {
+    // The same at another stage.
+    fn staged(self, stage: Stage) -> Form
+        ensures { result ≡ staged «stage» self }
+    {
+        Form { stage, ..self }
+    }
+
     // A round bracket leads to the next stage.
     fn bracket(self, round: Round, next: Stage, x: Lexeme) -> Result<Form, ReadFault>
         ensures { result ≡ on_mark (round_byte round) (meant x.entry.token) (Ok (staged next self)) (not_allowed x.entry.start) }
     {
         match (round, x.token) {
-            (Round::Open, Token::RoundOpen) | (Round::Close, Token::RoundClose) => Ok(Form {
-                stage: next,
-                ..self
-            }),
+            (Round::Open, Token::RoundOpen) | (Round::Close, Token::RoundClose) => Ok(self.staged(
+                next,
+            )),
             _ => Err(ReadFault::Broken(Rule::NotAllowed, x.start)),
         }
     }
@@ -48,10 +54,7 @@ impl Form {
         match x.token {
             Token::Word(word) => {
                 let verb = verb_of(word).ok_or(bad)?;
-                Ok(Form {
-                    stage: after_word(verb),
-                    ..self
-                })
+                Ok(self.staged(after_word(verb)))
             }
             _ => Err(bad),
         }
@@ -84,6 +87,7 @@ impl Form {
                 _ => self.bracket(Round::Close, after_path(verb), x),
             },
             Stage::SecondPath => self.bracket(Round::Open, Stage::InSecondPath, x),
+            // As in the first path, but for the field and for what follows: a function for both would be given as much.
             Stage::InSecondPath => match x.token {
                 Token::Word(word) => {
                     let second = push_name(self.second, word, x.start)?;
@@ -100,17 +104,11 @@ impl Form {
             },
             Stage::Kind => {
                 kind.kind_first::<V>(None, x, line)?;
-                Ok(Form {
-                    stage: after_kind(kind.cur.mode),
-                    ..self
-                })
+                Ok(self.staged(after_kind(kind.cur.mode)))
             }
             Stage::Range => {
                 kind.step::<V>(x, line)?;
-                Ok(Form {
-                    stage: after_kind(kind.cur.mode),
-                    ..self
-                })
+                Ok(self.staged(after_kind(kind.cur.mode)))
             }
             Stage::Close(verb) => self.bracket(Round::Close, Stage::Closed(verb), x),
             Stage::Closed(_) => Err(ReadFault::Broken(Rule::NotAllowed, x.start)),
