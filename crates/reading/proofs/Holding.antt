@@ -1,17 +1,14 @@
 -- What the tables and the look_up hold stays so with each token.
-use Rattle.std.proofs.Common.{◌≡◌, ℕ, ◌+◌, ◌-◌, ◌<◌, ◌≤◌, List, [], ◌∷◌, ◌++◌, map, length, get_or, take, set, Some, None, Ok, Err, Result, sym, ap, ◌∙◌, subst, ⊎_elim, arith}
-use Rattle.std.proofs.lemmas.List.{take_more_set, length-take-le, length-set, length_push, get_or_push, get_or_past, get_or-take, get_or_append_left, get_or-set_same, get_or-set_other, map_push}
-use Rattle.std.proofs.lemmas.Bool.{cases_lt, cases_eq}
-use Rattle.reading.specs.declared.fault.ReadFault.{ReadFault}
-use Rattle.reading.specs.declared.draft.Cursor.{Cursor}
+use Rattle.std.proofs.Common.{◌≡◌, ℕ, ◌+◌, ◌-◌, ◌<◌, ◌≤◌, List, [], ◌∷◌, ◌++◌, length, get_or, take, set, Some, None, sym, ap, ◌∙◌, subst, ⊎_elim, arith}
+use Rattle.std.proofs.lemmas.List.{take_more_set, length-take-le, length-set, length_push, get_or_push, get_or-take, get_or_append_left, get_or-set_same, get_or-set_other}
+use Rattle.std.proofs.lemmas.Bool.{cases_eq}
 use Rattle.reading.specs.declared.draft.Place.{Place}
 use Rattle.reading.specs.declared.draft.Slot.{Slot}
 use Rattle.reading.specs.declared.drafting.lookup.Lookup.{Lookup}
 use Rattle.reading.specs.Drafts.{parent_at, slot_at, no_slot}
-use Rattle.reading.specs.Lookups.{marked, Small, Marks, Listed, owner_at, Fresh}
-use Rattle.reading.specs.Answers.{WithinOk}
-use Rattle.reading.specs.Held.{Holds, HeldOk}
-use Rattle.reading.proofs.Marking.{marks_none, marks_more}
+use Rattle.reading.specs.Lookups.{Marks, Listed, owner_at, Fresh}
+use Rattle.reading.specs.Held.{Holds}
+use Rattle.reading.proofs.Marking.{marks_none}
 use Rattle.reading.proofs.Listing.{listed_none, listed_same, listed_more}
 
 module _ {K : Type 0} where
@@ -25,36 +22,6 @@ module _ {K : Type 0} where
     parents = λ p. omega arith;
     looks = record { tags = marks_none look.described f.described; lists = listed_none (owner_at []) look.newest look.earlier f.newest f.earlier };
   }
-
-  -- one parent more
-  parent_more : (ps : List (Place K)) (x : Place K) (b : ℕ) → 0 < b → ((p : ℕ) → parent_at ps p < b) → x.parent < b → (p : ℕ) → parent_at (ps ++ x ∷ []) p < b
-  parent_more ps x b some all fits p = subst (λ l. get_or l p 0 < b) (sym (map_push (λ y. y.parent) ps x)) (by (map (λ y. y.parent) ps) all)
-    where
-      by : (l : List ℕ) → ((p : ℕ) → get_or l p 0 < b) → get_or (l ++ x.parent ∷ []) p 0 < b
-      by l all =
-          ⊎_elim (λ lt. subst (λ n. n < b) (sym (get_or_append_left l _ 0 p lt)) (all p))
-          (λ ge. ⊎_elim (λ e. subst (λ n. n < b) (sym (get_or_push l x.parent 0 p e)) fits)
-          (λ ne. subst (λ n. n < b) (sym (get_or_past (l ++ x.parent ∷ []) p 0 (omega (arith, length_push l x.parent)))) some) (cases_eq (length l) p))
-          (cases_lt p (length l))
-
-  -- a place is put into the tables
-  pub held_place : (top n m : ℕ) (ps : List (Place K)) (ss : List Slot) (look look₂ : Lookup) (x : Place K) → Holds top n m ps ss look → n < length ps → x.parent ≡ top → Small x.tag →
-      look₂.described ≡ marked x.tag look.described → look₂.newest ≡ look.newest → look₂.earlier ≡ look.earlier → Holds n (n + 1) m (set ps n x) ss look₂
-  held_place top n m ps ss look look₂ x h lt up small e f g =
-      let more = take_more_set ps n x lt in
-      let long = length-set ps n x in
-      record {
-        places_fit = omega arith;
-        slots_fit = h.slots_fit;
-        few_places = omega (arith, h.few_places);
-        few_slots = h.few_slots;
-        top_fits = omega (arith, h.few_places);
-        parents = λ p. subst (λ l. parent_at l p < 1000) (sym more) (parent_more (take n ps) x 1000 (omega arith) h.parents (omega (arith, h.top_fits)) p);
-        looks = record {
-          tags = subst (λ l. Marks l look₂.described) (sym more) (subst (Marks (take n ps ++ x ∷ [])) (sym e) (marks_more (take n ps) look.described x small h.looks.tags));
-          lists = subst (λ l. Listed (owner_at (take m ss)) (length (take m ss)) look₂.newest l) (sym g) (subst (λ l. Listed (owner_at (take m ss)) (length (take m ss)) l look.earlier) (sym f) h.looks.lists);
-        };
-      }
 
   -- a slot is put into the tables
   pub held_slot : (top n m : ℕ) (ps : List (Place K)) (ss : List Slot) (look look₂ : Lookup) (s : Slot) → Holds top n m ps ss look → m < length ss → s.owner ≡ top →
@@ -127,10 +94,3 @@ module _ {K : Type 0} where
     parents = h.parents;
     looks = h.looks;
   }
-
-  pub within_held : (r : Result Cursor ReadFault) (ps : List (Place K)) (ss : List Slot) (look : Lookup) → HeldOk r ps ss look → WithinOk r ps ss
-  within_held (Ok c) ps ss look h = (h.places_fit, h.slots_fit)
-  within_held (Err f) ps ss look h = tt
-
-  pub within_err : (r : Result Cursor ReadFault) (f : ReadFault) (ps : List (Place K)) (ss : List Slot) → r ≡ Err f → WithinOk r ps ss
-  within_err r f ps ss e = subst (λ r. WithinOk r ps ss) (sym e) tt

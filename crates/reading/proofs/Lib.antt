@@ -4,9 +4,7 @@ pub mod Lines
 pub mod Marking
 pub mod Listing
 pub mod Holding
-pub mod Describing
 pub mod Pathing
-pub mod Verbs
 pub mod FormSteps
 pub mod FormLines
 pub mod Fronts

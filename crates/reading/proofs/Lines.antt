@@ -17,9 +17,14 @@ module _ {K : Type 0} (words : List ℕ → Option K) (ranges : ℤ → ℤ → 
     pub inside : from ≤ length line
     pub rest : read_from words ranges turns pl sl line from d ≡ read_place words ranges pl sl line
 
-  pub left_start : (pl sl : ℕ) (line : List ℕ) → length line ≤ 60000 → Left pl sl line 0 nothing
+  pub left_start : (pl sl : ℕ) (line : List ℕ) (d : Draft K) → d ≡ nothing → length line ≤ 60000 → Left pl sl line 0 d
   unfolding read_place
-  left_start pl sl line le = record { turns = suc (length line); enough = omega arith; inside = omega arith; rest = sym (cond-false _ _ _ (le-ltb 60000 (length line) le)) }
+  left_start pl sl line d e le = record {
+    turns = suc (length line);
+    enough = omega arith;
+    inside = omega arith;
+    rest = ap (read_from words ranges (suc (length line)) pl sl line 0) e ∙ sym (cond-false _ _ _ (le-ltb 60000 (length line) le));
+  }
 
   pub too_long : (pl sl : ℕ) (line : List ℕ) → 60000 < length line → fault 10 0 ≡ read_place words ranges pl sl line
   unfolding read_place

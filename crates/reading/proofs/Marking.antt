@@ -1,17 +1,16 @@
 -- Tags that are marked by their numbers are those that the places describe.
-use Rattle.std.proofs.Common.{◌≡◌, ℕ, ◌-◌, Bool, true, false, cond, ◌||◌, List, [], ◌∷◌, ◌++◌, length, get_or, take, set, replicate, Some, None, Option, sym, refl, ap, ◌∙◌, ⊎_elim, arith}
+use Rattle.std.proofs.Common.{◌≡◌, Bool, true, false, cond, ◌||◌, List, [], ◌∷◌, ◌++◌, length, get_or, replicate, Some, None, refl, ap, ◌∙◌, ⊎_elim, arith}
 use mathlib.Core.Bool.{or-false}
 use Rattle.std.specs.Option.{option_or}
-use Rattle.std.proofs.lemmas.List.{length-set, length-replicate, get_or-replicate, get_or_past, get_or-set_same, get_or-set_other}
-use Rattle.std.proofs.lemmas.Bool.{cases_eq, cases_lt, or_right, eq-eqb, ne_eqb}
-use Rattle.reading.specs.declared.draft.Tag.{Tag}
+use Rattle.std.proofs.lemmas.List.{length-replicate, get_or-replicate, get_or_past}
+use Rattle.std.proofs.lemmas.Bool.{cases_lt}
 use Rattle.reading.specs.declared.draft.Target.{Target}
 use Rattle.reading.specs.declared.draft.Target.TheVariants.{To, ByTag}
 use Rattle.reading.specs.declared.draft.Place.{Place}
 use Rattle.reading.specs.declared.draft.Slot.{Slot}
-use Rattle.reading.specs.Drafts.{Draft, any_of, numbered, described}
-use Rattle.reading.specs.Steps.{go, fault, on_some, described_at, undescribed_at, undescribed}
-use Rattle.reading.specs.Lookups.{marked, Small, marked_at, unmarked_at, unmarked, Marks}
+use Rattle.reading.specs.Drafts.{any_of}
+use Rattle.reading.specs.Steps.{undescribed_at, undescribed}
+use Rattle.reading.specs.Lookups.{unmarked_at, unmarked, Marks}
 
 pub any_push : {X : Type 0} (p : X → Bool) (xs : List X) (x : X) → any_of p (xs ++ x ∷ []) ≡ (any_of p xs || p x)
 any_push p [] x = or-false (p x)
@@ -28,25 +27,6 @@ module _ {K : Type 0} where
     same = λ n. ap (λ l. get_or l n false) e ∙ ⊎_elim (λ lt. get_or-replicate 256 n false false lt) (λ ge. get_or_past (replicate 256 false) n false (omega (arith, length-replicate 256 false))) (cases_lt n 256);
   }
 
-  pub marks_more : (ps : List (Place K)) (tags : List Bool) (p : Place K) → Small p.tag → Marks ps tags → Marks (ps ++ p ∷ []) (marked p.tag tags)
-  marks_more ps tags p small m = record { size = size₁ p.tag; same = λ n. by p.tag n small ∙ sym (any_push (λ q. numbered q.tag n) ps p) }
-    where
-      size₁ : (o : Option Tag) → length (marked o tags) ≡ 256
-      size₁ None = m.size
-      size₁ (Some t) = length-set tags t.number true ∙ m.size
-
-      by : (o : Option Tag) (n : ℕ) → Small o → get_or (marked o tags) n false ≡ (described ps n || numbered o n)
-      by None n s = m.same n ∙ sym (or-false (described ps n))
-      by (Some t) n s =
-          ⊎_elim
-          (λ e. ap (λ k. get_or (set tags t.number true) k false) e ∙ get_or-set_same tags t.number true false (omega (arith, m.size)) ∙ sym (or_right (described ps n) _ (eq-eqb t.number n (sym e))))
-          (λ ne. get_or-set_other tags t.number n true false ne ∙ m.same n ∙ sym (ap (λ b. described ps n || b) (ne_eqb t.number n (λ e. ne (sym e))) ∙ or-false (described ps n)))
-          (cases_eq n t.number)
-
-  pub marked_same : (ps : List (Place K)) (tags : List Bool) (o : Option Tag) → Marks ps tags → marked_at o tags ≡ described_at o ps
-  marked_same ps tags None m = refl
-  marked_same ps tags (Some t) m = ap (λ b. cond b (Some t.byte) None) (m.same t.number)
-
   pub unmarked_same : (ps : List (Place K)) (tags : List Bool) (ss : List Slot) → Marks ps tags → unmarked ss tags ≡ undescribed ss ps
   unmarked_same ps tags [] m = refl
   unmarked_same ps tags (s ∷ ss) m = λ i. option_or (one s.target i) (unmarked_same ps tags ss m i)
@@ -54,9 +34,3 @@ module _ {K : Type 0} where
       one : (t : Target) → unmarked_at t tags ≡ undescribed_at t ps
       one (To p) = refl
       one (ByTag t) = ap (λ b. cond b None (Some t.byte)) (m.same t.number)
-
-  -- a part from the start to n has n - 0 slots
-  pub referred : (ps : List (Place K)) (tags : List Bool) (ss : List Slot) (n : ℕ) (o : Option ℕ) (d : Draft K) → Marks ps tags → o ≡ unmarked (take (n - 0) ss) tags → on_some o (fault 26) (go d) ≡ on_some (undescribed (take n ss) ps) (fault 26) (go d)
-  referred ps tags ss n o d m e =
-      let all : n - 0 ≡ n = omega arith in
-      ap (λ x. on_some x (fault 26) (go d)) (e ∙ ap (λ k. unmarked (take k ss) tags) all ∙ unmarked_same ps tags (take n ss) m)

@@ -3,7 +3,7 @@ use Rattle.std.proofs.Common.{◌≡◌, ℕ, zero, suc, ◌+◌, ◌<◌, ◌�
 use Rattle.std.specs.Int.{is_in_range}
 use Rattle.std.proofs.lemmas.List.{get_or-take, length-take-le}
 use Rattle.std.proofs.lemmas.List.Sums.{prefix_len-le-length}
-use Rattle.std.proofs.lemmas.Bool.{cond_both, cond-true, and_parts, or_cases, or_left, eqb-true, leb-true, cases_lt}
+use Rattle.std.proofs.lemmas.Bool.{cond_both, cond-true, and_parts, or_cases, or_left, eqb-true, leb-true}
 use Rattle.names.specs.Names.{Letter, NameByte, Name}
 use Rattle.tokens.specs.declared.token.class.Class.{Class}
 use Rattle.tokens.specs.declared.token.class.Class.TheVariants.{Digit, WordByte}
@@ -69,6 +69,3 @@ next_worded line from x i j e = subst Next-worded (sym e) (first_worded (drop (a
 
 pub short_name : (w : List ℕ) → Word w → length w ≤ 12 → Name w
 short_name w h few = record { some = h.some; few = few; first = h.first; others = h.others }
-
-pub long_word : (w : List ℕ) → Word w → (Name w → ⊥) → 12 < length w
-long_word w h none = ⊎_elim (λ lt. lt) (λ le. absurd (none (short_name w h le))) (cases_lt 12 (length w))

@@ -12,9 +12,13 @@ use Rattle.reading.specs.declared.form.Verb.{Verb}
 use Rattle.reading.specs.declared.form.Verb.TheVariants.{Add, Tie, Narrow, Mark, Keep, Back, Clear, Show}
 use Rattle.reading.specs.declared.form.Stage.{Stage}
 use Rattle.reading.specs.declared.form.Stage.TheVariants as stage
+use Rattle.reading.specs.declared.form.Form.{Form}
 use Rattle.reading.specs.declared.form.FormCursor.{FormCursor}
+use Rattle.reading.specs.declared.forming.steps.Round.{Round}
+use Rattle.reading.specs.declared.forming.steps.Round.TheVariants.{Open, Close}
 use Rattle.reading.specs.declared.path.Path.{Path}
 use Rattle.reading.specs.Steps.{on_some}
+use Rattle.reading.specs.Drafts.{Draft}
 use Rattle.reading.specs.Answers.{draft}
 use Rattle.reading.specs.Paths.{named}
 use Rattle.reading.specs.Forms.{Formed, FormStep, goes, refused}
@@ -47,9 +51,14 @@ word_of Show = codes "show"
 
 -- ---- steps
 
+-- the byte of a round bracket
+abbrev pub round_byte : Round → ℕ
+round_byte Open = 40
+round_byte Close = 41
+
 -- the form at another stage
-abbrev pub staged : Stage → FormCursor → FormCursor
-staged t c = record { stage = t; first = c.first; second = c.second; cur = c.cur }
+abbrev pub staged : Stage → Form → Form
+staged t f = record { stage = t; first = f.first; second = f.second }
 
 -- a token that does not belong there
 abbrev pub not_allowed : {X : Type 0} → ℕ → Result X ReadFault
@@ -81,15 +90,28 @@ by_stage (stage.Close v) table one = by_verb v table one
 by_stage (stage.Closed v) table one = by_verb v table one
 
 module _ {K : Type 0} where
-  -- what has been read of a form
+  -- what has been read of a form, where its place reads as d and its kind as e
+  abbrev pub reads : Form → Draft K → Draft K → Formed K
+  reads f d e = record { stage = f.stage; first = named f.first; second = named f.second; draft = by_stage f.stage d e }
+
+  -- what the tables hold of a form
   abbrev pub formed : FormCursor → List (Place K) → List Slot → List (Place K) → Formed K
-  formed c ps ss one = record { stage = c.stage; first = named c.first; second = named c.second; draft = by_stage c.stage (draft c.cur ps ss) (draft c.cur one []) }
+  formed c ps ss one = reads c.form (draft c.cur ps ss) (draft c.cur one [])
 
   -- a fault of a line refuses with its number at its byte
   abbrev pub faulted : ReadFault → FormStep K
   faulted f = on_some (byte_of f) (refused (number_of f)) (refused 0 0)
 
-  -- what came: a form, or a refusal
+  -- what came of a token, and of the end of the line: a form, or a refusal
+  abbrev pub form_comes : Result Form ReadFault → Draft K → Draft K → FormStep K
+  form_comes (Ok f) d e = goes (reads f d e)
+  form_comes (Err f) d e = faulted f
+
+  abbrev pub form_ends : Result Unit ReadFault → Formed K → FormStep K
+  form_ends (Ok u) f = goes f
+  form_ends (Err x) f = faulted x
+
+  -- what came of a line: a form, or a refusal
   abbrev pub form_came : Result FormCursor ReadFault → List (Place K) → List Slot → List (Place K) → FormStep K
   form_came (Ok c) ps ss one = goes (formed c ps ss one)
   form_came (Err f) ps ss one = faulted f
@@ -119,5 +141,5 @@ module _ {K : Type 0} where
   within_at (stage.Closed v) c ps ss one = within_by v c ps ss one
 
   abbrev pub FormWithinOk : Result FormCursor ReadFault → List (Place K) → List Slot → List (Place K) → Type 0
-  FormWithinOk (Ok c) ps ss one = within_at c.stage c.cur ps ss one
+  FormWithinOk (Ok c) ps ss one = within_at c.form.stage c.cur ps ss one
   FormWithinOk (Err f) ps ss one = Unit {0}

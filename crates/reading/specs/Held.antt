@@ -1,8 +1,7 @@
 -- What holds between the tokens of a line as it is read.
-use Rattle.std.specs.Prelude.{ℕ, ◌<◌, ◌≤◌, List, length, take, Ok, Err, Result}
+use Rattle.std.specs.Prelude.{ℕ, ◌<◌, ◌≤◌, List, length, take}
 use Rattle.tokens.specs.Tokens.{Tok, mark, word, number}
 use Rattle.vocabulary.specs.Texts.{Word}
-use Rattle.reading.specs.declared.fault.ReadFault.{ReadFault}
 use Rattle.reading.specs.declared.draft.Place.{Place}
 use Rattle.reading.specs.declared.draft.Slot.{Slot}
 use Rattle.reading.specs.declared.draft.Cursor.{Cursor}
@@ -23,10 +22,6 @@ module _ {K : Type 0} where
 
   abbrev pub Held : Cursor → List (Place K) → List Slot → Lookup → Type 0
   Held c ps ss look = Holds c.top c.places c.slots ps ss look
-
-  abbrev pub HeldOk : Result Cursor ReadFault → List (Place K) → List Slot → Lookup → Type 0
-  HeldOk (Ok c) ps ss look = Held c ps ss look
-  HeldOk (Err f) ps ss look = Unit {0}
 
 -- a token that is a word has the form of one
 abbrev pub Worded : Tok → Type 0

@@ -6,6 +6,7 @@ pub mod Meaning
 pub mod Lookups
 pub mod Answers
 pub mod Held
+pub mod Readers
 pub mod Paths
 pub mod Forms
 pub mod Forming

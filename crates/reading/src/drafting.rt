@@ -3,23 +3,19 @@ ghost use Rattle.std.specs.Prelude.{◌≡◌, ◌≤◌, min, length};
 ghost use Rattle.reading.specs.Answers.{came, WithinOk};
 ghost use Rattle.reading.specs.Steps.{read_place};
 
-use crate::draft::{Cursor, Mode, Place, Slot};
-use crate::drafting::lookup::Lookup;
-use crate::drafting::steps::{end_line, step};
+use crate::draft::{Cursor, Place, Slot};
+use crate::drafting::lookup::{MOST_PLACES, MOST_SLOTS};
+use crate::drafting::reader::DraftReader;
 use crate::fault::ReadFault;
 use kinds::kind::Kind;
 use tokens::token::{checked_length, next_token};
 use vocabulary::vocabulary::Vocabulary;
 
-pub(crate) mod describing;
+mod describing;
 pub(crate) mod lookup;
 mod naming;
-pub(crate) mod steps;
-
-// The most places, and the most slots, of a draft.
-const MOST_PLACES: usize = 1000;
-
-const MOST_SLOTS: usize = 4000;
+pub(crate) mod reader;
+mod steps;
 
 // Reads the line token by token. The tables have then the draft in their first records.
 fn read_within<K: Kind, V: Vocabulary<K>>(
@@ -32,19 +28,14 @@ fn read_within<K: Kind, V: Vocabulary<K>>(
     ensures within { WithinOk result places.new slots.new }
 {
     checked_length(line)?;
-    let mut cur = Cursor {
-        mode: Mode::Begin,
-        top: 0,
-        places: 0,
-        slots: 0,
-    };
-    let mut look = Lookup::new();
+    let mut draft = DraftReader::new(places, slots);
     let mut from = 0;
     while let Some(x) = next_token(line, from)? {
-        cur = step::<K, V>(cur, x, line, places, slots, &mut look)?;
+        draft.step::<V>(x, line)?;
         from = x.end;
     }
-    end_line(cur, line.len(), places, slots, &look)
+    draft.end(line.len())?;
+    Ok(draft.cur)
 }
 
 // Reads a line of one place into a draft, which has no more places and slots than the tables, and not more than a sheet can have. The

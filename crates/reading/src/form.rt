@@ -37,11 +37,17 @@ pub enum Stage {
     Closed(Verb),
 }
 
-// What has been read of a form: how far, its paths, and the cursor of the draft of its place or kind.
+// What has been read of a form: how far, and its paths.
 #[derive(Clone, Copy)]
-pub(crate) struct FormCursor {
+pub(crate) struct Form {
     pub(crate) stage: Stage,
     pub(crate) first: Path,
     pub(crate) second: Path,
+}
+
+// A form that has been read, and the cursor of the draft of its place or kind.
+#[derive(Clone, Copy)]
+pub(crate) struct FormCursor {
+    pub(crate) form: Form,
     pub(crate) cur: Cursor,
 }

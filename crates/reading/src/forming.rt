@@ -3,11 +3,10 @@ ghost use Rattle.std.specs.Prelude.{◌≡◌, ◌≤◌, length};
 ghost use Rattle.reading.specs.Forming.{form_came, FormWithinOk};
 ghost use Rattle.reading.specs.Forms.{read_form};
 
-use crate::draft::{Cursor, Mode, Place, Slot};
-use crate::drafting::lookup::Lookup;
+use crate::draft::{Place, Slot};
+use crate::drafting::reader::DraftReader;
 use crate::fault::ReadFault;
-use crate::form::{FormCursor, Stage};
-use crate::forming::steps::{end_form, form_step};
+use crate::form::{Form, FormCursor, Stage};
 use crate::path::Path;
 use kinds::kind::Kind;
 use tokens::token::{checked_length, next_token};
@@ -30,22 +29,20 @@ pub(crate) fn read_form_draft<K: Kind, V: Vocabulary<K>>(
     ensures within { FormWithinOk result places.new slots.new one.new }
 {
     checked_length(line)?;
-    let mut form = FormCursor {
+    let mut place = DraftReader::new(places, slots);
+    let mut kind = DraftReader::new(one, &mut []);
+    let mut form = Form {
         stage: Stage::Begin,
         first: Path::empty(),
         second: Path::empty(),
-        cur: Cursor {
-            mode: Mode::Begin,
-            top: 0,
-            places: 0,
-            slots: 0,
-        },
     };
-    let mut look = Lookup::new();
     let mut from = 0;
+    // The loop of a draft's line again: a trait for the two would repeat in its ghost members all that `step` and `end` ensure.
     while let Some(x) = next_token(line, from)? {
-        form = form_step::<K, V>(form, x, line, places, slots, one, &mut look)?;
+        form = form.step::<K, V>(x, line, &mut place, &mut kind)?;
         from = x.end;
     }
-    end_form(form, line.len(), places, slots, one, &look)
+    form.end(line.len(), &place)?;
+    let cur = form.cursor(place.cur, kind.cur);
+    Ok(FormCursor { form, cur })
 }

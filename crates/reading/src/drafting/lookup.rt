@@ -11,7 +11,8 @@ pub(crate) const MOST_PLACES: usize = 1_000;
 // The most slots of a draft.
 pub(crate) const MOST_SLOTS: usize = 4_000;
 
-// By number whether a tag is described; by place its newest slot, and by slot the one before it of the same place.
+// By number whether a tag is described; by place its newest slot, and by slot the one before it of the same place. Lists through
+// indices in fixed arrays: the library has no heap.
 #[derive(Drop)]
 pub(crate) struct Lookup {
     pub(crate) described: [bool; 256],
@@ -42,18 +43,18 @@ impl Lookup {
         }
     }
 
+    // Whether the tag is described.
+    fn is_described(&self, tag: Tag) -> bool
+        ensures { result ≡ slice_index_or self.now.described tag.number false }
+    {
+        self.described[tag.number as usize]
+    }
+
     // The byte of a tag that is described already.
     pub(crate) fn described_at(&self, tag: Option<Tag>) -> Option<usize>
         ensures { result ≡ marked_at tag self.now.described }
     {
-        match tag {
-            Some(t) => if self.described[t.number as usize] {
-                Some(t.byte)
-            } else {
-                None
-            },
-            None => None,
-        }
+        tag.filter(|t| self.is_described(*t)).map(|t| t.byte)
     }
 
     // The byte of the target's tag, if that is not described.
@@ -62,11 +63,7 @@ impl Lookup {
     {
         match target {
             Target::To(_) => None,
-            Target::ByTag(t) => if self.described[t.number as usize] {
-                None
-            } else {
-                Some(t.byte)
-            },
+            Target::ByTag(t) => (!self.is_described(t)).then_some(t.byte),
         }
     }
 
@@ -74,10 +71,10 @@ impl Lookup {
     pub(crate) fn first_undescribed(&self, slots: &[Slot]) -> Option<usize>
         ensures { result ≡ unmarked slots.now self.now.described }
     {
+        // A loop: what `find_map` ensures did not give the first byte of the list in a proof.
         for s in slots {
-            match self.undescribed_at(s.target) {
-                Some(b) => return Some(b),
-                None => {}
+            if let Some(b) = self.undescribed_at(s.target) {
+                return Some(b);
             }
         }
         None

@@ -1,14 +1,12 @@
 // What one token does to a draft, and what the end of the line does.
-ghost use Rattle.std.specs.Prelude.{◌≡◌, length, take};
+ghost use Rattle.std.specs.Prelude.{◌≡◌, length};
 ghost use Rattle.tokens.specs.Answers.{meant};
-ghost use Rattle.reading.specs.Answers.{draft, came};
-ghost use Rattle.reading.specs.Held.{Held, HeldOk, Worded};
-ghost use Rattle.reading.specs.Steps.{fault, go, on_some, tag_number, undescribed, end_in, step as stepBy};
+ghost use Rattle.reading.specs.Held.{Worded};
+ghost use Rattle.reading.specs.Readers.{read, came, SameTables};
+ghost use Rattle.reading.specs.Steps.{moved, tag_number, undescribed, end_in, step as stepBy};
 
-use crate::draft::{Cursor, Mode, Place, Slot, Tag};
-use crate::drafting::describing::{kind_first, range_last};
-use crate::drafting::lookup::Lookup;
-use crate::drafting::naming::{close_place, push_slot, refer_to};
+use crate::draft::{Mode, Tag};
+use crate::drafting::reader::DraftReader;
 use crate::fault::{ReadFault, Rule};
 use kinds::kind::Kind;
 use tokens::token::{Lexeme, Token};
@@ -18,98 +16,78 @@ use vocabulary::vocabulary::Vocabulary;
 fn tag_number(n: i32) -> Option<u8>
     ensures { result ≡ tag_number n }
 {
-    if n >= 1 && n <= 99 {
-        Some(n as u8)
-    } else {
-        None
-    }
+    u8::try_from(n).ok().filter(|t| (1..=99).contains(t))
 }
 
-impl Cursor {
-    // The same in another mode.
-    fn turned(self, mode: Mode) -> Cursor
-        ensures { result ≡ record { mode = mode; top = self.top; places = self.places; slots = self.slots } }
+impl<K: Kind> DraftReader<'_, K> {
+    // The same in another mode, answered as the other steps answer.
+    fn turn(&mut self, mode: Mode) -> Result<(), ReadFault>
+        ensures is { came result self.new ≡ moved mode (read self.old) }
+        ensures tables { SameTables self.old self.new }
     {
-        Cursor { mode, ..self }
+        self.cur.mode = mode;
+        Ok(())
     }
-}
 
-// The token `x` after what the tables hold.
-pub(crate) fn step<K: Kind, V: Vocabulary<K>>(
-    cur: Cursor,
-    x: Lexeme,
-    line: &[u8],
-    places: &mut [Place<K>],
-    slots: &mut [Slot],
-    look: &mut Lookup,
-) -> Result<Cursor, ReadFault>
-    requires within { Held cur places.old slots.old look.old }
-    requires worded { Worded (meant x.token) }
-    ensures is { came result places.new slots.new ≡ stepBy V.Vocabulary.words V.Vocabulary.ranges (length places.old) (length slots.old) line.now (draft cur places.old slots.old) (meant x.entry.token) x.entry.start x.entry.«end» }
-    ensures fits { HeldOk result places.new slots.new look.new }
-{
-    let byte = x.start;
-    match (cur.mode, x.token) {
-        (Mode::Begin, Token::RoundOpen) => Ok(cur.turned(Mode::Opened)),
-        (Mode::Opened, Token::Hash) => Ok(cur.turned(Mode::Hashed)),
-        (Mode::Opened, _) => kind_first::<K, V>(cur, None, x, line, places, slots, look),
-        (Mode::Hashed, Token::Number(n)) => match tag_number(n) {
-            Some(number) => Ok(cur.turned(Mode::Tagged(Tag { number, byte }))),
-            None => Err(ReadFault::Broken(Rule::TagNumber, byte)),
-        },
-        (Mode::Tagged(tag), Token::RoundClose) => Ok(refer_to(cur, tag, places, slots, look)),
-        (Mode::Tagged(tag), _) => kind_first::<K, V>(cur, Some(tag), x, line, places, slots, look),
-        (Mode::Low(open), Token::Number(low)) => Ok(cur.turned(Mode::Dotted(open, low))),
-        (Mode::Dotted(open, low), Token::Dots) => Ok(cur.turned(Mode::High(open, low))),
-        (Mode::High(_, low), Token::Number(high)) if high < low => Err(ReadFault::Broken(
-            Rule::LowAboveHigh,
-            byte,
-        )),
-        (Mode::High(open, low), Token::Number(high)) => Ok(cur.turned(Mode::Ranged(
-            open, low, high,
-        ))),
-        (Mode::Ranged(open, low, high), Token::SquareClose) => range_last::<K, V>(
-            cur, open, low, high, places, slots, look,
-        ),
-        (Mode::Inside, Token::Word(word)) => push_slot(cur, word, byte, places, slots, look),
-        (Mode::Inside, Token::RoundClose) => Ok(close_place(cur, places, slots, look)),
-        _ => Err(ReadFault::Broken(Rule::NotAllowed, byte)),
+    // The token `x` after what has been read.
+    pub(crate) fn step<V: Vocabulary<K>>(&mut self, x: Lexeme, line: &[u8]) -> Result<(), ReadFault>
+        requires { Worded (meant x.token) }
+        ensures is { came result self.new ≡ stepBy V.Vocabulary.words V.Vocabulary.ranges (length self.old.places.now) (length self.old.slots.now) line.now (read self.old) (meant x.entry.token) x.entry.start x.entry.«end» }
+        ensures tables { SameTables self.old self.new }
+    {
+        let byte = x.start;
+        match (self.cur.mode, x.token) {
+            (Mode::Begin, Token::RoundOpen) => self.turn(Mode::Opened),
+            (Mode::Opened, Token::Hash) => self.turn(Mode::Hashed),
+            (Mode::Opened, _) => self.kind_first::<V>(None, x, line),
+            (Mode::Hashed, Token::Number(n)) => {
+                let number = tag_number(n).ok_or(ReadFault::Broken(Rule::TagNumber, byte))?;
+                self.turn(Mode::Tagged(Tag { number, byte }))
+            }
+            (Mode::Tagged(tag), Token::RoundClose) => {
+                self.refer_to(tag);
+                Ok(())
+            }
+            (Mode::Tagged(tag), _) => self.kind_first::<V>(Some(tag), x, line),
+            (Mode::Low(open), Token::Number(low)) => self.turn(Mode::Dotted(open, low)),
+            (Mode::Dotted(open, low), Token::Dots) => self.turn(Mode::High(open, low)),
+            (Mode::High(_, low), Token::Number(high)) if high < low => Err(ReadFault::Broken(
+                Rule::LowAboveHigh,
+                byte,
+            )),
+            (Mode::High(open, low), Token::Number(high)) => self.turn(Mode::Ranged(
+                open, low, high,
+            )),
+            (Mode::Ranged(open, low, high), Token::SquareClose) => self.range_last::<V>(
+                open, low, high,
+            ),
+            (Mode::Inside, Token::Word(word)) => self.push_slot(word, byte),
+            (Mode::Inside, Token::RoundClose) => {
+                self.close_place();
+                Ok(())
+            }
+            _ => Err(ReadFault::Broken(Rule::NotAllowed, byte)),
+        }
     }
-}
 
-// The draft, unless a tag was referred to and never described.
-fn check_references<K: Kind>(
-    cur: Cursor,
-    places: &[Place<K>],
-    slots: &[Slot],
-    look: &Lookup,
-) -> Result<Cursor, ReadFault>
-    requires { Held cur places.now slots.now look.now }
-    ensures is { came result places.now slots.now ≡ on_some (undescribed (take cur.slots slots.now) (take cur.places places.now)) (fault 26) (go (draft cur places.now slots.now)) }
-    ensures fits { HeldOk result places.now slots.now look.now }
-{
-    let used = cur.slots;
-    match look.first_undescribed(&slots[0..used]) {
-        Some(b) => Err(ReadFault::Broken(Rule::TagNever, b)),
-        None => Ok(cur),
+    // The byte of the first reference to a tag that no place describes.
+    fn first_undescribed(&self) -> Option<usize>
+        ensures { result ≡ undescribed (read self.now).slots (read self.now).places }
+    {
+        self.look.first_undescribed(&self.slots[..self.cur.slots])
     }
-}
 
-// The line ends at byte `end`.
-pub(crate) fn end_line<K: Kind>(
-    cur: Cursor,
-    end: usize,
-    places: &[Place<K>],
-    slots: &[Slot],
-    look: &Lookup,
-) -> Result<Cursor, ReadFault>
-    requires { Held cur places.now slots.now look.now }
-    ensures is { came result places.now slots.now ≡ end_in cur.mode (draft cur places.now slots.now) «end» }
-    ensures fits { HeldOk result places.now slots.now look.now }
-{
-    match cur.mode {
-        Mode::Done(None) => check_references(cur, places, slots, look),
-        Mode::Done(Some(t)) => Err(ReadFault::Broken(Rule::TagNever, t.byte)),
-        _ => Err(ReadFault::Broken(Rule::NotAllowed, end)),
+    // The line ends at byte `end`.
+    pub(crate) fn end(&self, end: usize) -> Result<(), ReadFault>
+        ensures { came result self.now ≡ end_in self.now.cur.mode (read self.now) «end» }
+    {
+        match self.cur.mode {
+            Mode::Done(None) => match self.first_undescribed() {
+                Some(b) => Err(ReadFault::Broken(Rule::TagNever, b)),
+                None => Ok(()),
+            },
+            Mode::Done(Some(t)) => Err(ReadFault::Broken(Rule::TagNever, t.byte)),
+            _ => Err(ReadFault::Broken(Rule::NotAllowed, end)),
+        }
     }
 }

@@ -13,11 +13,7 @@ pub(crate) fn push_name(path: Path, word: &[u8], byte: usize) -> Result<Path, Re
     requires { Word word.now }
     ensures { shown result ≡ one_more word.now (named path) byte }
 {
-    let Some(name) = number_of(word) else {
-        return Err(ReadFault::Broken(Rule::LongName, byte));
-    };
-    match path.push(name) {
-        Some(longer) => Ok(longer),
-        None => Err(ReadFault::Broken(Rule::LongPath, byte)),
-    }
+    let name = number_of(word).ok_or(ReadFault::Broken(Rule::LongName, byte))?;
+    path.push(name)
+        .ok_or(ReadFault::Broken(Rule::LongPath, byte))
 }

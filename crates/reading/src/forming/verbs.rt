@@ -1,5 +1,7 @@
 // The words of forms, and what follows each.
 ghost use Rattle.std.specs.Prelude.{◌≡◌};
+ghost use Rattle.std.specs.List.{find};
+ghost use Rattle.std.specs.Str.{bytes_eq};
 ghost use Rattle.reading.specs.Forms.{verb, after_word, after_path, after_kind};
 ghost use Rattle.reading.specs.Forming.{word_of};
 
@@ -34,16 +36,25 @@ fn word_of(verb: Verb) -> &'static str
     }
 }
 
+// Whether the form begins with this word.
+fn begins_with(verb: Verb, word: &[u8]) -> bool
+    ensures { result ≡ bytes_eq word.now (word_of «verb») }
+{
+    word == word_of(verb).as_bytes()
+}
+
+// The first of these forms that begins with the word.
+fn first_of(verbs: &[Verb], word: &[u8]) -> Option<Verb>
+    ensures { result ≡ find (λ v. bytes_eq word.now (word_of v)) verbs.now }
+{
+    verbs.iter().find(|verb| begins_with(**verb, word)).copied()
+}
+
 // The form that begins with this word.
 pub(crate) fn verb_of(word: &[u8]) -> Option<Verb>
     ensures { result ≡ verb word.now }
 {
-    for verb in VERBS {
-        if word == word_of(verb).as_bytes() {
-            return Some(verb);
-        }
-    }
-    None
+    first_of(&VERBS, word)
 }
 
 // What follows the word: a path, or the end.

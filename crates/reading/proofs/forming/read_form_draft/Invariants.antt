@@ -1,12 +1,14 @@
 use Rattle.std.proofs.Common.{◌-◌, length}
-use Rattle.reading.specs.Forming.{formed}
+use Rattle.reading.specs.Readers.{read, SameTables}
+use Rattle.reading.specs.Forming.{reads}
 use Rattle.reading.specs.FormsHeld.{FormHeld}
 use Rattle.reading.proofs.FormLines.{Left}
 use Rattle.reading.proofs.forming.read_form_draft.Given as goal
 
 abbrev pub invariant-loop-x : goal.invariant-loop-x
 invariant-loop-x g l =
-    Left g.V.Vocabulary.words g.V.Vocabulary.ranges (length l.places) (length l.slots) l.line l.from (formed l.form l.places l.slots l.one) × FormHeld l.form l.places l.slots l.one l.look
+    Left g.V.Vocabulary.words g.V.Vocabulary.ranges (length l.place.places.now) (length l.place.slots.now) l.line l.from (reads l.form (read l.place) (read l.kind)) ×
+    FormHeld l.form l.place l.kind × SameTables l.initial.place l.place × SameTables l.initial.kind l.kind
 
 abbrev pub decreases-loop-x : goal.decreases-loop-x
 decreases-loop-x g l = length l.line - l.from
