@@ -4,7 +4,7 @@ use Rattle.std.proofs.lemmas.List.{length_push, get_or_push, get_or_append_left}
 use Rattle.std.proofs.lemmas.Bool.{cases_eq, cases_lt, false≢true, or_cases, or_from, or_parts, or_left, or_right, eqb-true, eqb-false, eq-eqb, ne_eqb}
 use Rattle.kinds.specs.Laws.{KindLaws}
 use Rattle.records.specs.declared.SlotRecord.{SlotRecord}
-use Rattle.records.specs.Tables.{target_at, count_at, first_at}
+use Rattle.records.specs.Tables.{blank_slot, count_at, first_at}
 use Rattle.records.specs.Sheets.{Sheet, size, Formed}
 use Rattle.records.proofs.Shape.{target_in}
 use Rattle.records.proofs.Pigeons.{pigeon}
@@ -56,58 +56,64 @@ apart_push n qs q a h none = record {
 few : (n : ℕ) (qs : List ℕ) → Apart n qs → length qs ≤ n
 few n qs a = pigeon (length qs) n (λ i. get_or qs i 0) (λ i h. a.low (get_or qs i 0) (has_at qs i h)) a.apart
 
--- ---- the targets of slots
+-- ---- what holds of every slot
 
--- every slot leads to a place below n
-abbrev pub Aimed : ℕ → List SlotRecord → Type 0
-Aimed n [] = Unit {0}
-Aimed n (x ∷ xs) = (x.target < n) × Aimed n xs
+abbrev pub Every : (SlotRecord → Type 0) → List SlotRecord → Type 0
+Every P [] = Unit {0}
+Every P (x ∷ xs) = P x × Every P xs
 
-abbrev AllAimed : ℕ → List (List SlotRecord) → Type 0
-AllAimed n [] = Unit {0}
-AllAimed n (xs ∷ left) = Aimed n xs × AllAimed n left
+abbrev pub EveryLeft : (SlotRecord → Type 0) → List (List SlotRecord) → Type 0
+EveryLeft P [] = Unit {0}
+EveryLeft P (xs ∷ left) = Every P xs × EveryLeft P left
 
-aimed_drop : (n k : ℕ) (xs : List SlotRecord) → Aimed n xs → Aimed n (drop k xs)
-aimed_drop n zero xs a = a
-aimed_drop n (suc k) [] a = tt
-aimed_drop n (suc k) (x ∷ xs) a = aimed_drop n k xs a.1
+every_drop : (P : SlotRecord → Type 0) (k : ℕ) (xs : List SlotRecord) → Every P xs → Every P (drop k xs)
+every_drop P zero xs a = a
+every_drop P (suc k) [] a = tt
+every_drop P (suc k) (x ∷ xs) a = every_drop P k xs a.1
 
-aimed_take : (n k : ℕ) (xs : List SlotRecord) → Aimed n xs → Aimed n (take k xs)
-aimed_take n zero xs a = tt
-aimed_take n (suc k) [] a = tt
-aimed_take n (suc k) (x ∷ xs) a = (a.0, aimed_take n k xs a.1)
+every_take : (P : SlotRecord → Type 0) (k : ℕ) (xs : List SlotRecord) → Every P xs → Every P (take k xs)
+every_take P zero xs a = tt
+every_take P (suc k) [] a = tt
+every_take P (suc k) (x ∷ xs) a = (a.0, every_take P k xs a.1)
 
-aimed_from : (n : ℕ) (xs : List SlotRecord) → ((i : ℕ) → i < length xs → target_at xs i < n) → Aimed n xs
-aimed_from n [] h = tt
-aimed_from n (x ∷ xs) h = (h 0 (omega arith), aimed_from n xs (λ i l. h (suc i) (omega arith)))
+pub every_from : (P : SlotRecord → Type 0) (xs : List SlotRecord) → ((i : ℕ) → i < length xs → P (get_or xs i blank_slot)) → Every P xs
+every_from P [] h = tt
+every_from P (x ∷ xs) h = (h 0 (omega arith), every_from P xs (λ i l. h (suc i) (omega arith)))
 
 module _ {K F : Type 0} {below : K → K → Type 0} {top : K} {form : K → F} {kind : F → Option K} (laws : KindLaws below top form kind) (texts : K → Text) (s : Sheet K) (formed : Formed s) where
-  block_aimed : (p : ℕ) → Aimed (size s) (slots_of s p)
-  block_aimed p = aimed_take (size s) (count_at s.places p) (drop (first_at s.places p) s.slots) (aimed_drop (size s) (first_at s.places p) s.slots (aimed_from (size s) s.slots (target_in s formed)))
+  block_every : (P : SlotRecord → Type 0) → Every P s.slots → (p : ℕ) → Every P (slots_of s p)
+  block_every P all p = every_take P (count_at s.places p) (drop (first_at s.places p) s.slots) (every_drop P (first_at s.places p) s.slots all)
+
+  -- what holds of every slot of the sheet holds of those that are left
+  pub every_left : (P : SlotRecord → Type 0) → Every P s.slots → {left : List (List SlotRecord)} {written text : List ℕ} → Walk laws texts s left written text → EveryLeft P left
+  every_left P all begins = (block_every P all 0, tt)
+  every_left P all (closes w) = (every_left P all w).1
+  every_left P all (refers w old) = let h = every_left P all w in (h.0.1, h.1)
+  every_left P all (enters {x} w new) = let h = every_left P all w in (block_every P all x.target, (h.0.1, h.1))
+
+  aimed : Every (λ x. x.target < size s) s.slots
+  aimed = every_from (λ x. x.target < size s) s.slots (target_in s formed)
 
   -- what holds at each turn
   record Level (left : List (List SlotRecord)) (written : List ℕ) : Type 0 where
     depth : length left ≤ length written
-    aimed : AllAimed (size s) left
     apart : Apart (size s) written
 
   level : {left : List (List SlotRecord)} {written text : List ℕ} → Walk laws texts s left written text → Level left written
   level begins = record {
     depth = omega arith;
-    aimed = (block_aimed 0, tt);
     apart = record {
       low = λ p e. ⊎_elim (λ is. subst (λ (r : ℕ). r < size s) (eqb-true 0 p is) formed.rooted) (λ no'. absurd (false≢true no')) (or_cases (eqb 0 p) false e);
       apart = λ i j l m. absurd (omega arith);
     };
   }
-  level (closes w) = let h = level w in record { depth = omega (arith, h.depth); aimed = h.aimed.1; apart = h.apart }
-  level (refers w old) = let h = level w in record { depth = h.depth; aimed = (h.aimed.0.1, h.aimed.1); apart = h.apart }
+  level (closes w) = let h = level w in record { depth = omega (arith, h.depth); apart = h.apart }
+  level (refers w old) = let h = level w in record { depth = h.depth; apart = h.apart }
   level (enters {x} {xs} {left} {written} w new) =
       let h = level w in
       record {
         depth = omega (arith, h.depth, length_push written x.target);
-        aimed = (block_aimed x.target, (h.aimed.0.1, h.aimed.1));
-        apart = apart_push (size s) written x.target h.apart h.aimed.0.0 new;
+        apart = apart_push (size s) written x.target h.apart (every_left (λ y. y.target < size s) aimed w).0.0 new;
       }
 
   pub shallow : {left : List (List SlotRecord)} {written text : List ℕ} → Walk laws texts s left written text → length left ≤ size s
