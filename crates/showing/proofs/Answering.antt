@@ -1,18 +1,15 @@
 -- From the text that was measured to the answer.
-use Rattle.std.proofs.Common.{◌≡◌, ℕ, zero, suc, ◌+◌, ◌<◌, ◌≤◌, min, Bool, cond, eqb, leb, List, ◌++◌, length, take, drop, count_by, Option, sym, refl, ap, ◌∙◌, subst, zero-add, arith}
+use Rattle.std.proofs.Common.{◌≡◌, ℕ, ◌+◌, ◌<◌, ◌≤◌, min, List, ◌++◌, length, take, drop, count_by, Option, sym, ap, ◌∙◌, subst, zero-add, arith}
 use lib.Seq.{sets-eq}
 use Rattle.std.specs.List.{range_with_len}
 use Rattle.std.proofs.lemmas.List.{take_at, drop_at}
-use Rattle.std.proofs.lemmas.List.Sums.{sum_by-cons}
 use Rattle.kinds.specs.Laws.{KindLaws}
 use Rattle.kinds.specs.declared.kind.Kind.{Ghosts}
 use Rattle.records.specs.declared.PlaceRecord.{PlaceRecord}
 use Rattle.records.specs.declared.SlotRecord.{SlotRecord}
-use Rattle.records.specs.Tables.{target_at}
 use Rattle.records.specs.Sheets as records
 use Rattle.records.specs.Sheets.{size, sheet_of}
-use Rattle.records.proofs.Reading.{same_size}
-use Rattle.records.proofs.Shape.{target_in}
+use Rattle.records.proofs.Reading.{same_size, formed_read}
 use Rattle.sheets.specs.declared.sheet.Sheet.{Sheet}
 use Rattle.sheets.specs.Checks.{IsSheet}
 use Rattle.sheets.specs.Shown.{ShowsNothing, ShowsSheet}
@@ -21,7 +18,6 @@ use Rattle.showing.specs.Shown.{Shown, TooDeep, tags, tagged}
 use Rattle.showing.specs.Showing.{TooLong, Written}
 use Rattle.showing.specs.Progress.{Wrote}
 use Rattle.showing.proofs.Depth.{not_deep}
-use Rattle.showing.proofs.Stepping.{formed, small}
 use Rattle.showing.proofs.Walking.{one_text}
 
 pub not_nothing : {K F : Type 0} {g : Ghosts K F} (sheet : Sheet K F g) → ShowsSheet sheet → ShowsNothing sheet → ⊥
@@ -32,7 +28,7 @@ module _ {K F : Type 0} {below : K → K → Type 0} {top : K} {form : K → F} 
   s = sheet_of laws ps ss
 
   pub never_deep : TooDeep laws texts s → ⊥
-  never_deep = not_deep laws texts s (formed laws texts ps ss sheet) (small laws texts ps ss sheet)
+  never_deep = not_deep laws texts s (formed_read laws (record { places = ps; slots = ss }) sheet.formed) (omega (arith, same_size laws ps, sheet.few_places))
 
 module _ {K F : Type 0} {below : K → K → Type 0} {top : K} {form : K → F} {kind : F → Option K} (laws : KindLaws below top form kind) (texts : K → Text) where
   pub tags_are : {qs ps : List (PlaceRecord F)} {ts ss : List SlotRecord} → qs ≡ ps → ts ≡ ss → count_by (tagged (sheet_of laws qs ts)) (range_with_len 0 (length qs)) ≡ tags (sheet_of laws ps ss)

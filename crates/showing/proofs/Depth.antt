@@ -1,7 +1,9 @@
 -- Each place is written once, so no more places are open at once than there are.
-use Rattle.std.proofs.Common.{◌≡◌, ℕ, zero, suc, ◌<◌, ◌≤◌, Bool, true, false, ◌||◌, eqb, ◌≢◌, ◌⊎◌, List, [], ◌∷◌, ◌++◌, length, get_or, take, drop, Option, sym, refl, ap, ◌∙◌, subst, inl, inr, ⊎_elim, arith}
+use Rattle.std.proofs.Common.{◌≡◌, ℕ, zero, suc, ◌<◌, ◌≤◌, Bool, true, false, ◌||◌, eqb, ◌≢◌, ◌⊎◌, List, [], ◌∷◌, ◌++◌, length, get_or, drop, Option, sym, refl, ap, ◌∙◌, subst, inl, inr, ⊎_elim, arith}
 use Rattle.std.proofs.lemmas.List.{length_push, get_or_push, get_or_append_left}
 use Rattle.std.proofs.lemmas.Bool.{cases_eq, cases_lt, false≢true, or_cases, or_from, or_parts, or_left, or_right, eqb-true, eqb-false, eq-eqb, ne_eqb}
+use Rattle.std.specs.List.{All}
+use Rattle.std.proofs.lemmas.List.Elements.{All-nil, All-cons, All-head, All-tail, All-take, All-drop, All-from_get_or}
 use Rattle.kinds.specs.Laws.{KindLaws}
 use Rattle.records.specs.declared.SlotRecord.{SlotRecord}
 use Rattle.records.specs.Tables.{blank_slot, count_at, first_at}
@@ -36,9 +38,6 @@ has_new (r ∷ qs) q = or_right (eqb r q) (has (qs ++ (q ∷ [])) q) (has_new qs
 pub has_push : (qs : List ℕ) (q p : ℕ) → has (qs ++ (q ∷ [])) p ≡ true → (q ≡ p) ⊎ (has qs p ≡ true)
 has_push qs q p e = ⊎_elim (λ is. inl is) (λ other. inr (sym (has_other qs q p other) ∙ e)) (cases_eq q p)
 
-pub has_old : (qs : List ℕ) (q p : ℕ) → has qs p ≡ true → has (qs ++ (q ∷ [])) p ≡ true
-has_old qs q p e = ⊎_elim (λ is. subst (λ (r : ℕ). has (qs ++ (q ∷ [])) r ≡ true) is (has_new qs q)) (λ other. has_other qs q p other ∙ e) (cases_eq q p)
-
 -- all different, and all below n
 pub record Apart (n : ℕ) (qs : List ℕ) : Type 0 where
   pub low : (p : ℕ) → has qs p ≡ true → p < n
@@ -58,41 +57,26 @@ few n qs a = pigeon (length qs) n (λ i. get_or qs i 0) (λ i h. a.low (get_or q
 
 -- ---- what holds of every slot
 
-abbrev pub Every : (SlotRecord → Type 0) → List SlotRecord → Type 0
-Every P [] = Unit {0}
-Every P (x ∷ xs) = P x × Every P xs
+-- holds still when the next one is taken
+all_next : (P : SlotRecord → Type 0) (x : SlotRecord) (xs : List SlotRecord) (left : List (List SlotRecord)) → All (λ l. All P l) ((x ∷ xs) ∷ left) → All (λ l. All P l) (xs ∷ left)
+all_next P x xs left h = All-cons (λ l. All P l) xs left (All-tail P x xs (All-head (λ l. All P l) (x ∷ xs) left h)) (All-tail (λ l. All P l) (x ∷ xs) left h)
 
-abbrev pub EveryLeft : (SlotRecord → Type 0) → List (List SlotRecord) → Type 0
-EveryLeft P [] = Unit {0}
-EveryLeft P (xs ∷ left) = Every P xs × EveryLeft P left
-
-every_drop : (P : SlotRecord → Type 0) (k : ℕ) (xs : List SlotRecord) → Every P xs → Every P (drop k xs)
-every_drop P zero xs a = a
-every_drop P (suc k) [] a = tt
-every_drop P (suc k) (x ∷ xs) a = every_drop P k xs a.1
-
-every_take : (P : SlotRecord → Type 0) (k : ℕ) (xs : List SlotRecord) → Every P xs → Every P (take k xs)
-every_take P zero xs a = tt
-every_take P (suc k) [] a = tt
-every_take P (suc k) (x ∷ xs) a = (a.0, every_take P k xs a.1)
-
-pub every_from : (P : SlotRecord → Type 0) (xs : List SlotRecord) → ((i : ℕ) → i < length xs → P (get_or xs i blank_slot)) → Every P xs
-every_from P [] h = tt
-every_from P (x ∷ xs) h = (h 0 (omega arith), every_from P xs (λ i l. h (suc i) (omega arith)))
+pub all_first : (P : SlotRecord → Type 0) (x : SlotRecord) (xs : List SlotRecord) (left : List (List SlotRecord)) → All (λ l. All P l) ((x ∷ xs) ∷ left) → P x
+all_first P x xs left h = All-head P x xs (All-head (λ l. All P l) (x ∷ xs) left h)
 
 module _ {K F : Type 0} {below : K → K → Type 0} {top : K} {form : K → F} {kind : F → Option K} (laws : KindLaws below top form kind) (texts : K → Text) (s : Sheet K) (formed : Formed s) where
-  block_every : (P : SlotRecord → Type 0) → Every P s.slots → (p : ℕ) → Every P (slots_of s p)
-  block_every P all p = every_take P (count_at s.places p) (drop (first_at s.places p) s.slots) (every_drop P (first_at s.places p) s.slots all)
+  block_all : (P : SlotRecord → Type 0) → All P s.slots → (p : ℕ) → All P (slots_of s p)
+  block_all P all p = All-take P (count_at s.places p) (drop (first_at s.places p) s.slots) (All-drop P (first_at s.places p) s.slots all)
 
   -- what holds of every slot of the sheet holds of those that are left
-  pub every_left : (P : SlotRecord → Type 0) → Every P s.slots → {left : List (List SlotRecord)} {written text : List ℕ} → Walk laws texts s left written text → EveryLeft P left
-  every_left P all begins = (block_every P all 0, tt)
-  every_left P all (closes w) = (every_left P all w).1
-  every_left P all (refers w old) = let h = every_left P all w in (h.0.1, h.1)
-  every_left P all (enters {x} w new) = let h = every_left P all w in (block_every P all x.target, (h.0.1, h.1))
+  pub all_left : (P : SlotRecord → Type 0) → All P s.slots → {left : List (List SlotRecord)} {written text : List ℕ} → Walk laws texts s left written text → All (λ l. All P l) left
+  all_left P all begins = All-cons (λ l. All P l) (slots_of s 0) [] (block_all P all 0) (All-nil (λ l. All P l))
+  all_left P all (closes {left} w) = All-tail (λ l. All P l) [] left (all_left P all w)
+  all_left P all (refers {x} {xs} {left} w old) = all_next P x xs left (all_left P all w)
+  all_left P all (enters {x} {xs} {left} w new) = All-cons (λ l. All P l) (slots_of s x.target) (xs ∷ left) (block_all P all x.target) (all_next P x xs left (all_left P all w))
 
-  aimed : Every (λ x. x.target < size s) s.slots
-  aimed = every_from (λ x. x.target < size s) s.slots (target_in s formed)
+  aimed : All (λ x. x.target < size s) s.slots
+  aimed = All-from_get_or (λ x. x.target < size s) s.slots blank_slot (target_in s formed)
 
   -- what holds at each turn
   record Level (left : List (List SlotRecord)) (written : List ℕ) : Type 0 where
@@ -113,15 +97,11 @@ module _ {K F : Type 0} {below : K → K → Type 0} {top : K} {form : K → F} 
       let h = level w in
       record {
         depth = omega (arith, h.depth, length_push written x.target);
-        apart = apart_push (size s) written x.target h.apart (every_left (λ y. y.target < size s) aimed w).0.0 new;
+        apart = apart_push (size s) written x.target h.apart (all_first (λ y. y.target < size s) x xs left (all_left (λ y. y.target < size s) aimed w)) new;
       }
 
   pub shallow : {left : List (List SlotRecord)} {written text : List ℕ} → Walk laws texts s left written text → length left ≤ size s
   shallow {written = written} w = let h = level w in omega (arith, h.depth, few (size s) written h.apart)
-
-  -- a place that was written is one of the sheet
-  pub written_low : {left : List (List SlotRecord)} {written text : List ℕ} → Walk laws texts s left written text → (p : ℕ) → has written p ≡ true → p < size s
-  written_low w p e = (level w).apart.low p e
 
   pub not_deep : size s ≤ 1000 → TooDeep laws texts s → ⊥
   not_deep few d = omega (arith, shallow d.walk, d.deep)

@@ -1,7 +1,9 @@
 -- Each move of the state is a turn of the writing.
-use Rattle.std.proofs.Common.{◌≡◌, ℕ, ◌+◌, ◌*◌, ◌<◌, ◌≤◌, Bool, true, false, cond, eqb, ◌||◌, List, [], ◌∷◌, ◌++◌, map, reverse, length, get_or, take, drop, set, sum_by, count_by, Some, None, Option, sym, refl, ap, ◌∙◌, subst, ⊎_elim, arith, Bor}
+use Rattle.std.proofs.Common.{◌≡◌, ℕ, ◌+◌, ◌*◌, ◌<◌, ◌≤◌, Bool, true, false, cond, eqb, List, [], ◌∷◌, ◌++◌, map, reverse, length, get_or, drop, set, sum_by, count_by, Some, None, Option, sym, refl, ap, ◌∙◌, subst, ⊎_elim, arith, Bor}
 use Rattle.std.proofs.lemmas.List.{length-set, length-map, length-reverse, length-take, length-drop, map-append, reverse-append, nil_from_length, get_or-set_same, get_or-set_other}
 use Rattle.std.proofs.lemmas.List.Sums.{sum_by-set, sum_by-cons}
+use Rattle.std.specs.List.{All}
+use Rattle.std.proofs.lemmas.List.Elements.{All-from_get_or}
 use Rattle.std.proofs.lemmas.Bool.{cases_eq, cases_Bool, false≢true, or_cases, or_parts, eq-eqb}
 use Rattle.kinds.specs.Laws.{KindLaws}
 use Rattle.names.specs.Names.{IsName}
@@ -14,7 +16,7 @@ use Rattle.showing.specs.declared.walk.Progress.{Progress}
 use Rattle.showing.specs.Shown.{tagged, tag_of, hashed, slots_of, has, naming, Walk, Shown}
 use Rattle.showing.specs.Shown.Walk.{begins, closes, refers, enters}
 use Rattle.showing.specs.Progress.{unwritten, Room, Fresh, Entered, Ended, Taken, next_tag, Right, unset, measure, opened, Reached, Going}
-use Rattle.showing.proofs.Depth.{Every, EveryLeft, every_from, every_left, has_other, has_new, shallow, written_few}
+use Rattle.showing.proofs.Depth.{all_first, all_left, has_other, has_new, shallow, written_few}
 
 -- ---- the stack
 
@@ -116,12 +118,6 @@ weight_more : (xs : List SlotRecord) (left : List (List SlotRecord)) → weight 
 weight_more xs left = sum_by-cons (λ xs. length xs + 1) xs left
 
 module _ (ss : List SlotRecord) where
-  pub falls_ended : (w v : Progress) → Ended w v → measure ss v < measure ss w
-  falls_ended w v e =
-      let tags = ap (λ (l : List (Option ℕ)). count_by unset l * (length ss + 2)) e.tags in
-      let left = ap (λ (l : List (List SlotRecord)). weight l) e.left ∙ weight_more [] (unwritten v) in
-      omega arith
-
   pub falls_taken : (w v : Progress) (x : SlotRecord) → Taken w x v → measure ss v < measure ss w
   falls_taken w v x t =
       let tags = ap (λ (l : List (Option ℕ)). count_by unset l * (length ss + 2)) t.tags in
@@ -154,14 +150,14 @@ module _ {K F : Type 0} {below : K → K → Type 0} {top : K} {form : K → F} 
   few_open w text g = omega (arith, shallow laws texts s formed g.walk, unwritten_length w)
 
   -- what holds of every slot holds of the one that is taken
-  taken_every : (P : SlotRecord → Type 0) (w v : Progress) (x : SlotRecord) (text : List ℕ) → Every P s.slots → Going laws texts s w text → Taken w x v → P x
-  taken_every P w v x text all g t = (subst (λ (l : List (List SlotRecord)). EveryLeft P l) t.before (every_left laws texts s formed P all g.walk)).0.0
+  taken_all : (P : SlotRecord → Type 0) (w v : Progress) (x : SlotRecord) (text : List ℕ) → All P s.slots → Going laws texts s w text → Taken w x v → P x
+  taken_all P w v x text all g t = all_first P x t.here t.others (subst (λ (l : List (List SlotRecord)). All (λ xs. All P xs) l) t.before (all_left laws texts s formed P all g.walk))
 
   pub taken_target : (w v : Progress) (x : SlotRecord) (text : List ℕ) → Going laws texts s w text → Taken w x v → x.target < size s
-  taken_target w v x text g t = taken_every (λ y. y.target < size s) w v x text (every_from (λ y. y.target < size s) s.slots (target_in s formed)) g t
+  taken_target w v x text g t = taken_all (λ y. y.target < size s) w v x text (All-from_get_or (λ y. y.target < size s) s.slots blank_slot (target_in s formed)) g t
 
   pub taken_name : (w v : Progress) (x : SlotRecord) (text : List ℕ) → ((i : ℕ) → i < width s → IsName (name_at s.slots i)) → Going laws texts s w text → Taken w x v → IsName x.name
-  taken_name w v x text named g t = taken_every (λ y. IsName y.name) w v x text (every_from (λ y. IsName y.name) s.slots named) g t
+  taken_name w v x text named g t = taken_all (λ y. IsName y.name) w v x text (All-from_get_or (λ y. IsName y.name) s.slots blank_slot named) g t
 
   pub going_ended : (w v : Progress) (text : List ℕ) → Going laws texts s w text → Ended w v → Going laws texts s v (text ++ (41 ∷ []))
   going_ended w v text g e = record {

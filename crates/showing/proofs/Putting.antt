@@ -1,9 +1,8 @@
 -- One piece after another is the two of them together.
-use Rattle.std.proofs.Common.{◌≡◌, ℕ, suc, ◌+◌, ◌-◌, ◌^◌, ◌<◌, ◌≤◌, min, List, [], ◌∷◌, ◌++◌, length, get_or, take, set, sym, refl, ap, ◌∙◌, subst, decimal, append_assoc, append-nil, add-zero, arith, length-append}
+use Rattle.std.proofs.Common.{◌≡◌, ℕ, suc, ◌+◌, ◌-◌, ◌^◌, ◌<◌, ◌≤◌, min, List, [], ◌∷◌, ◌++◌, length, set, sym, refl, ap, ◌∙◌, subst, append_assoc, append-nil, add-zero, arith, length-append}
 use lib.Seq.{sets}
-use Rattle.std.proofs.lemmas.List.{take_more, set_past}
+use Rattle.std.proofs.lemmas.List.{set_past}
 use Rattle.showing.specs.declared.writing.Output.{Output}
-use Rattle.showing.specs.Shown.{hashed}
 use Rattle.showing.specs.Writing.{Adds, Holds}
 
 sets_append : (l : List ℕ) (i j : ℕ) (xs ys : List ℕ) → j ≡ i + length xs → sets (sets l i xs) j ys ≡ sets l i (xs ++ ys)
@@ -46,11 +45,3 @@ adds_then {xs} {ys} {t} {u} {v} p q = record {
 -- the same piece by another name
 pub adds_as : {xs ys : List ℕ} {t u : Output} → xs ≡ ys → Adds xs t u → Adds ys t u
 adds_as {xs} {ys} {t} {u} e p = subst (λ (piece : List ℕ). Adds piece t u) e p
-
--- one byte more of a list
-pub adds_more : (bytes : List ℕ) (i : ℕ) (t u v : Output) → i < length bytes → Adds (take i bytes) t u → Adds (get_or bytes i 0 ∷ []) u v → Adds (take (i + 1) bytes) t v
-adds_more bytes i t u v h p q = adds_as (sym (take_more bytes i 0 h)) (adds_then p q)
-
--- a tag, and what follows it
-pub adds_hashed : (n : ℕ) {ys : List ℕ} {t u v : Output} → Adds (hashed n []) t u → Adds ys u v → Adds (hashed n ys) t v
-adds_hashed n {ys} p q = adds_as (ap (λ (t : List ℕ). 35 ∷ t) (append_assoc (decimal n) [] ys)) (adds_then p q)

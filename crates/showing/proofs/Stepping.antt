@@ -1,5 +1,5 @@
--- One turn over the tables of a sheet.
-use Rattle.std.proofs.Common.{◌≡◌, ℕ, ◌+◌, ◌<◌, ◌≤◌, Bool, true, false, cond, List, [], ◌++◌, ◌∷◌, length, get_or, take, drop, None, Option, sym, refl, ap, ◌∙◌, subst, append_assoc, append-nil, arith, Bor}
+-- One turn over a source.
+use Rattle.std.proofs.Common.{◌≡◌, ℕ, ◌+◌, ◌<◌, ◌≤◌, Bool, true, false, cond, List, [], ◌++◌, ◌∷◌, length, get_or, take, drop, None, sym, refl, ◌∙◌, subst, append_assoc, append-nil, arith}
 use Rattle.std.specs.Bool.{then_some}
 use mathlib.Core.Logic.{∥∥₁_elim}
 use native.Mathlib.Bridge.{le_prop}
@@ -9,7 +9,7 @@ use Rattle.names.specs.Names.{IsName}
 use Rattle.records.specs.declared.PlaceRecord.{PlaceRecord}
 use Rattle.records.specs.declared.SlotRecord.{SlotRecord}
 use Rattle.records.specs.Tables.{first_at, count_at}
-use Rattle.records.specs.Sheets.{Sheet, size, Formed, sheet_of}
+use Rattle.records.specs.Sheets.{Sheet, size, Formed}
 use Rattle.records.proofs.Reading.{same_size, same_first, same_count, formed_read}
 use Rattle.sheets.specs.Checks.{IsSheet}
 use Rattle.sheets.specs.declared.sheet.Sheet.{Sheet as View}
@@ -17,21 +17,23 @@ use Rattle.sheets.proofs.Showing.{shows_sheet}
 use Rattle.vocabulary.specs.Texts.{Text}
 use Rattle.showing.specs.declared.walk.Progress.{Progress}
 use Rattle.showing.specs.declared.writing.Output.{Output}
-use Rattle.showing.specs.Shown.{hashed, naming, slots_of}
+use Rattle.showing.specs.declared.source.Source.{Source}
+use Rattle.showing.specs.Shown.{tagged, hashed, naming, slots_of, Shown}
+use Rattle.showing.specs.Source.{held}
 use Rattle.showing.specs.Writing.{Adds, marked}
-use Rattle.showing.specs.Progress.{unwritten, Room, Entered, Ended, Taken, measure, Visited, Going, Begun, Since}
-use Rattle.showing.proofs.Progressing.{falls_ended, falls_taken, few_open, taken_target, taken_name, going_ended, paused, room, going_reached, falls_reached}
+use Rattle.showing.specs.Progress.{unwritten, Room, Fresh, Entered, Ended, Taken, measure, opened, Visited, Going, Begun, Since}
+use Rattle.showing.proofs.Progressing.{falls_taken, few_open, taken_target, taken_name, going_ended, paused, room, going_reached, falls_reached, going_begins, going_ends}
 use Rattle.showing.proofs.Putting.{adds_none, adds_then}
 
--- that tables hold a sheet is known whole, where it is known at all
-pub is_sheet : {K F : Type 0} (kind : Ghosts K F) (places : Bor (List (PlaceRecord F))) (slots : Bor (List SlotRecord)) → ∥ IsSheet places.now slots.now ∥₁ → IsSheet places.now slots.now
-is_sheet {K} {F} kind places slots sheet =
-    let rooted : 0 < length places.now = ∥∥₁_elim sheet le_prop (λ x. x.formed.rooted) in
+-- that a source holds a sheet is known whole
+pub is_sheet : {K F : Type 0} {kind : Ghosts K F} (source : Source K F kind) → IsSheet source.tables.places.now source.tables.slots.now
+is_sheet {K} {F} {kind} source =
+    let rooted : 0 < length source.tables.places.now = ∥∥₁_elim source.sheet le_prop (λ x. x.formed.rooted) in
     let view : View K F kind = record {
-      places = places;
-      slots = slots;
-      limits = (∥∥₁_elim sheet le_prop (λ x. x.few_places), ∥∥₁_elim sheet le_prop (λ x. x.few_slots));
-      shown = λ h. sheet;
+      places = source.tables.places;
+      slots = source.tables.slots;
+      limits = (∥∥₁_elim source.sheet le_prop (λ x. x.few_places), ∥∥₁_elim source.sheet le_prop (λ x. x.few_slots));
+      shown = λ h. source.sheet;
       nothing = λ none. absurd (omega arith);
     } in
     shows_sheet view rooted
@@ -44,15 +46,24 @@ pub marked_then : (b : Bool) (n : ℕ) → marked (then_some b n) ≡ cond b (ha
 marked_then true n = refl
 marked_then false n = refl
 
-module _ {K F : Type 0} {below : K → K → Type 0} {top : K} {form : K → F} {kind : F → Option K} (laws : KindLaws below top form kind) (texts : K → Text) (ps : List (PlaceRecord F)) (ss : List SlotRecord) (sheet : IsSheet ps ss) where
-  abbrev pub s : Sheet K
-  s = sheet_of laws ps ss
+module _ {K F : Type 0} {kind : Ghosts K F} (texts : K → Text) (source : Source K F kind) where
+  abbrev laws : KindLaws kind.below kind.top kind.form kind.kind
+  laws = kind.laws
 
-  pub formed : Formed s
-  formed = formed_read laws (record { places = ps; slots = ss }) sheet.formed
+  abbrev ps : List (PlaceRecord F)
+  ps = source.tables.places.now
 
-  pub small : size s ≤ 1000
-  small = omega (arith, same_size laws ps, sheet.few_places)
+  abbrev ss : List SlotRecord
+  ss = source.tables.slots.now
+
+  abbrev s : Sheet K
+  s = held source
+
+  formed : Formed s
+  formed = formed_read laws (record { places = ps; slots = ss }) (is_sheet source).formed
+
+  small : size s ≤ 1000
+  small = omega (arith, same_size laws ps, (is_sheet source).few_places)
 
   -- the slots of a place, as the tables have them
   pub block_read : (p : ℕ) → take (count_at ps p) (drop (first_at ps p) ss) ≡ slots_of s p
@@ -68,10 +79,10 @@ module _ {K F : Type 0} {below : K → K → Type 0} {top : K} {form : K → F} 
   slot_target w u x b t = omega (arith, taken_target laws texts s formed small w u x b.text b.going t, same_size laws ps)
 
   pub slot_name : (w u : Progress) (x : SlotRecord) → Begun laws texts s w → Taken w x u → IsName x.name
-  slot_name w u x b t = taken_name laws texts s formed small w u x b.text sheet.named b.going t
+  slot_name w u x b t = taken_name laws texts s formed small w u x b.text (is_sheet source).named b.going t
 
   slot_low : (w u : Progress) (x : SlotRecord) → Begun laws texts s w → Taken w x u → x.target < 1000
-  slot_low w u x b t = omega (arith, slot_target w u x b t, sheet.few_places)
+  slot_low w u x b t = omega (arith, slot_target w u x b t, (is_sheet source).few_places)
 
   pub slot_room : (w u : Progress) (x : SlotRecord) → Begun laws texts s w → Taken w x u → get_or u.tags x.target None ≡ None → Room u
   slot_room w u x b t new = room laws texts s formed small u x b.text (paused laws texts s formed small w u x b.text b.going t) (slot_low w u x b t) new
@@ -91,9 +102,6 @@ module _ {K F : Type 0} {below : K → K → Type 0} {top : K} {form : K → F} 
       let r = (paused laws texts s formed small w u x b.text b.going t).right in
       omega (arith, falls_taken ss w u x t, falls_reached laws texts s formed small u v x.target h.piece (get_or u.tags x.target None) (omega (arith, r.long, slot_low w u x b t)) refl h.reached)
 
-  pub falls_end : (w v : Progress) → Ended w v → measure ss v < measure ss w
-  falls_end w v e = falls_ended ss w v e
-
   -- ---- the loop
 
   pub since_none : (w : Progress) (o : Output) → Since laws texts s w w o o
@@ -112,3 +120,11 @@ module _ {K F : Type 0} {below : K → K → Type 0} {top : K} {form : K → F} 
 
   pub begun_since : (w v : Progress) (first new : Output) → Begun laws texts s w → Since laws texts s w v first new → Begun laws texts s v
   begun_since w v first new b c = record { text = b.text ++ c.piece; going = c.going b.text b.going }
+
+  -- the first place is opened
+  pub going_first : (w v : Progress) → Fresh w → Entered w 0 (slots_of s 0) (tagged s 0) v → Going laws texts s v (opened laws texts s w.next 0)
+  going_first w v f e = going_begins laws texts s formed small w v f e
+
+  -- no place is open any more
+  pub shown_last : (w : Progress) (text : List ℕ) → Going laws texts s w text → length w.left.items ≡ 0 → Shown laws texts s text
+  shown_last w text g none = going_ends laws texts s formed small w text g none

@@ -1,5 +1,7 @@
 -- Counting the slots that lead to each place.
-use Rattle.std.proofs.Common.{◌≡◌, ℕ, ◌+◌, ◌<◌, ◌≤◌, cond, eqb, List, [], ◌∷◌, ◌++◌, length, get_or, take, set, sum_by, sym, refl, ap, ◌∙◌, subst, ⊎_elim, arith}
+use Rattle.std.proofs.Common.{◌≡◌, ℕ, ◌+◌, ◌<◌, ◌≤◌, cond, eqb, List, [], ◌∷◌, length, get_or, take, set, sym, refl, ap, ◌∙◌, subst, ⊎_elim, arith}
+use Rattle.std.specs.List.{All}
+use Rattle.std.proofs.lemmas.List.Elements.{All-head, All-tail, All-from_get_or}
 use Rattle.std.proofs.lemmas.List.{get_or-set_same, get_or-set_other, get_or_past, length-take}
 use Rattle.std.proofs.lemmas.List.Sums.{count_by_more_yes, count_by_more_no, count_by-le-length, sum_by-cons}
 use Rattle.std.proofs.lemmas.Bool.{cases_eq, cases_lt, eq-eqb, ne_eqb}
@@ -10,7 +12,6 @@ use Rattle.records.specs.Sheets.{Sheet}
 use Rattle.records.proofs.Shape.{target_in}
 use Rattle.sheets.specs.Checks.{IsSheet}
 use Rattle.showing.specs.Tags.{led}
-use Rattle.showing.proofs.Depth.{Every, every_from}
 
 -- the table is right of the first i slots
 abbrev pub Leads : List ℕ → List SlotRecord → ℕ → Type 0
@@ -30,11 +31,11 @@ pub led_few : (ss : List SlotRecord) (i p : ℕ) → i ≤ length ss → led (ta
 led_few ss i p h = omega (arith, count_by-le-length (λ x. eqb x.target p) (take i ss), length-take i ss)
 
 -- no slot leads to a place past those that all of them lead to
-pub led_past : (n p : ℕ) (ss : List SlotRecord) → Every (λ x. x.target < n) ss → n ≤ p → led ss p ≡ 0
+pub led_past : (n p : ℕ) (ss : List SlotRecord) → All (λ x. x.target < n) ss → n ≤ p → led ss p ≡ 0
 led_past n p [] aimed h = refl
 led_past n p (x ∷ ss) aimed h =
-    let other = ne_eqb x.target p (λ e. omega (arith, aimed.0)) in
-    let rest = led_past n p ss aimed.1 h in
+    let other = ne_eqb x.target p (λ e. omega (arith, All-head (λ y. y.target < n) x ss aimed)) in
+    let rest = led_past n p ss (All-tail (λ y. y.target < n) x ss aimed) h in
     sum_by-cons (λ y. cond (eqb y.target p) 1 0) x ss ∙ (λ i. cond (other i) 1 0 + rest i)
 
 module _ {F : Type 0} {ps : List (PlaceRecord F)} {ss : List SlotRecord} (sheet : IsSheet ps ss) where
@@ -46,5 +47,5 @@ module _ {F : Type 0} {ps : List (PlaceRecord F)} {ss : List SlotRecord} (sheet 
   leads_all leading long counts p =
       ⊎_elim
       (λ low. counts p low)
-      (λ past. get_or_past leading p 0 (omega arith) ∙ sym (led_past 1000 p ss (every_from (λ x. x.target < 1000) ss targets_low) past))
+      (λ past. get_or_past leading p 0 (omega arith) ∙ sym (led_past 1000 p ss (All-from_get_or (λ x. x.target < 1000) ss blank_slot targets_low) past))
       (cases_lt p 1000)

@@ -2,9 +2,7 @@
 ghost use Rattle.std.specs.Prelude.{◌≡◌, ℕ, ◌<◌, ◌≤◌, length, count_by, slice_index};
 ghost use Rattle.std.specs.List.{range_with_len};
 ghost use Rattle.records.specs.Tables.{target_at};
-ghost use Rattle.records.specs.Sheets.{sheet_of};
 ghost use Rattle.sheets.specs.Checks.{IsSheet};
-ghost use Rattle.showing.specs.Shown.{tagged};
 ghost use Rattle.showing.specs.Tags.{led};
 
 use kinds::kind::Kind;
@@ -37,6 +35,9 @@ fn count_leading(slots: &[SlotRecord]) -> [u16; MOST_PLACES]
 }
 
 impl<'a, K: Kind> Source<'a, K> {
+    ghost use Rattle.showing.specs.Shown.{tagged};
+    ghost use Rattle.showing.specs.Source.{held};
+
     pub(crate) fn new(tables: Tables<'a, K::Form>) -> Self
         requires { IsSheet tables.places.now tables.slots.now }
         ensures places { result.tables.places.now ≡ tables.entry.places.now }
@@ -55,7 +56,7 @@ impl<'a, K: Kind> Source<'a, K> {
 
     // Whether the place `p` has a tag: two or more slots lead to it, or it is the root and one does.
     pub(crate) fn has_tag(&self, p: usize) -> bool
-        ensures { result ≡ tagged (sheet_of K.Kind.laws self.now.tables.places.now self.now.tables.slots.now) p }
+        ensures { result ≡ tagged (held self.now) p }
     {
         let least = if p == 0 { 1 } else { 2 };
         least <= self.leading_to(p)
@@ -63,7 +64,7 @@ impl<'a, K: Kind> Source<'a, K> {
 
     // How many places have a tag.
     pub(crate) fn count_tags(&self) -> usize
-        ensures { result ≡ count_by (tagged (sheet_of K.Kind.laws self.now.tables.places.now self.now.tables.slots.now)) (range_with_len 0 (length self.now.tables.places.now)) }
+        ensures { result ≡ count_by (tagged (held self.now)) (range_with_len 0 (length self.now.tables.places.now)) }
     {
         (0..self.tables.places.len())
             .filter(|p| self.has_tag(*p))

@@ -2,8 +2,8 @@
 ghost use Rattle.std.specs.Prelude.{◌≡◌, ◌<◌, ◌≤◌, None, length, slice_index_or};
 ghost use Rattle.arrayvec.specs.ArrayVec.{array_vec_len};
 ghost use Rattle.names.specs.Names.{IsName};
-ghost use Rattle.records.specs.Sheets.{sheet_of};
 ghost use Rattle.showing.specs.Shown.{tagged, slots_of};
+ghost use Rattle.showing.specs.Source.{held};
 ghost use Rattle.showing.specs.Writing.{Adds};
 ghost use Rattle.showing.specs.Progress.{Begun, Entered, Fresh, Room, Since, Took, Visited, Wrote, measure, opened};
 
@@ -68,8 +68,8 @@ impl<'a, K: Kind> Source<'a, K> {
     )
         requires within { p < length self.now.tables.places.now }
         requires room { Room progress.old }
-        ensures state { Entered progress.old p (slots_of (sheet_of K.Kind.laws self.now.tables.places.now self.now.tables.slots.now) p) (tagged (sheet_of K.Kind.laws self.now.tables.places.now self.now.tables.slots.now) p) progress.new }
-        ensures adds { Adds (opened K.Kind.laws V.Vocabulary.texts (sheet_of K.Kind.laws self.now.tables.places.now self.now.tables.slots.now) progress.old.next p) output.old output.new }
+        ensures state { Entered progress.old p (slots_of (held self.now) p) (tagged (held self.now) p) progress.new }
+        ensures adds { Adds (opened K.Kind.laws V.Vocabulary.texts (held self.now) progress.old.next p) output.old output.new }
     {
         let tagged = self.has_tag(p as usize);
         let tag = tagged.then_some(progress.next);
@@ -87,7 +87,7 @@ impl<'a, K: Kind> Source<'a, K> {
         requires within { slot.target < length self.now.tables.places.now }
         requires named { IsName slot.name }
         requires room { slice_index_or progress.old.tags slot.target None ≡ None → Room progress.old }
-        ensures { Visited K.Kind.laws V.Vocabulary.texts (sheet_of K.Kind.laws self.now.tables.places.now self.now.tables.slots.now) slot progress.old progress.new output.old output.new }
+        ensures { Visited K.Kind.laws V.Vocabulary.texts (held self.now) slot progress.old progress.new output.old output.new }
     {
         output.put_naming(slot.name);
         match progress.tags[slot.target as usize] {
@@ -98,9 +98,9 @@ impl<'a, K: Kind> Source<'a, K> {
 
     // One turn: ends the innermost open place, or writes its next slot.
     fn step<V: Vocabulary<K>>(&self, progress: &mut Progress<'a>, output: &mut Output<'_>)
-        requires begun { Begun K.Kind.laws V.Vocabulary.texts (sheet_of K.Kind.laws self.now.tables.places.now self.now.tables.slots.now) progress.old }
+        requires begun { Begun K.Kind.laws V.Vocabulary.texts (held self.now) progress.old }
         requires some { 0 < array_vec_len progress.old.left }
-        ensures since { Since K.Kind.laws V.Vocabulary.texts (sheet_of K.Kind.laws self.now.tables.places.now self.now.tables.slots.now) progress.old progress.new output.old output.new }
+        ensures since { Since K.Kind.laws V.Vocabulary.texts (held self.now) progress.old progress.new output.old output.new }
         ensures falls { measure self.now.tables.slots.now progress.new < measure self.now.tables.slots.now progress.old }
     {
         match progress.next_slot() {
@@ -111,7 +111,7 @@ impl<'a, K: Kind> Source<'a, K> {
 
     // Writes the text of the sheet from the start of the output on, so far as the output reaches, and answers how long it is.
     pub(crate) fn write<V: Vocabulary<K>>(&self, out: &mut [u8]) -> usize
-        ensures { Wrote K.Kind.laws V.Vocabulary.texts (sheet_of K.Kind.laws self.now.tables.places.now self.now.tables.slots.now) out.old out.new result }
+        ensures { Wrote K.Kind.laws V.Vocabulary.texts (held self.now) out.old out.new result }
     {
         let mut progress = Progress::new();
         let mut output = Output::new(out);

@@ -1,7 +1,6 @@
-use Rattle.std.proofs.Common.{ℕ, ◌+◌, ◌<◌, get_or, refl, ap, ◌∙◌, arith, rules}
-use Rattle.std.proofs.lemmas.List.{length-set, get_or-replicate, take_all}
+use Rattle.std.proofs.Common.{ℕ, ◌+◌, ◌<◌, get_or, refl, arith, rules}
+use Rattle.std.proofs.lemmas.List.{length-set, get_or-replicate}
 use Rattle.records.specs.Tables.{target_at}
-use Rattle.showing.specs.Tags.{led}
 use Rattle.showing.proofs.Tagging.{leads_more, led_few}
 use Rattle.showing.proofs.source.count_leading.Goals as goal
 
@@ -25,9 +24,3 @@ loop-slot-preserved c =
       simp length-set c.loop-slot.invariant.0,
       leads_more c.loop-slot.leading ss i c.loop-slot.invariant.0 (omega arith) (c.requires.1 i (omega arith)) c.loop-slot.invariant.1,
     )
-
-pub returns : goal.returns
-returns c = record {
-  long = c.loop-slot.invariant.0;
-  counts = λ p h. c.loop-slot.invariant.1 p h ∙ ap (λ l. led l p) (take_all c.loop-slot.slot-index c.args.slots.now (omega arith));
-}

@@ -10,8 +10,7 @@ pub returns : goal.returns
 returns g c =
     let s = c.args.self.now in
     let p : ℕ = c.args.p in
-    let sheet = is_sheet g.K.Kind s.tables.places s.tables.slots s.sheet in
-    let n : c.leading_to.result ≡ led s.tables.slots.now p = c.leading_to.ensures ∙ leads_all sheet s.leading s.long s.counts p in
+    let n : c.leading_to.result ≡ led s.tables.slots.now p = c.leading_to.ensures ∙ leads_all (is_sheet s) s.leading s.long s.counts p in
     let least : c.if-p-eq0.least ≡ cond (eqb p 0) 1 2 =
     elim c.if-p-eq0.branch [
       | then-p-eq0 w ↦ w.least-is ∙ ap (λ (b : Bool). cond b 1 2) (sym (eq-eqb p 0 w.if-p-eq0.true))

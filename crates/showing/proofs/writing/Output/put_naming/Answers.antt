@@ -1,4 +1,4 @@
-use Rattle.std.proofs.Common.{◌≡◌, List, ◌∙◌, subst, Some, Option}
+use Rattle.std.proofs.Common.{◌≡◌, ◌∙◌, subst, Some, Option}
 use Rattle.names.specs.declared.spelling.Spelling.{Spelling}
 use Rattle.names.specs.Spellings.{spelt, SpeltAs}
 use Rattle.showing.proofs.Putting.{adds_then, adds_as}
