@@ -14,7 +14,7 @@ pub(crate) const MOST_PLACES: usize = 1000;
 // The tables hold a sheet, and `leading` says how many of its slots lead to each place.
 #[derive(Drop)]
 pub struct Source<'a, K: Kind> {
-    pub tables: Tables<'a, K::Form>,
+    pub(crate) tables: Tables<'a, K::Form>,
     leading: [u16; MOST_PLACES],
     ghost sheet: { ∥ IsSheet tables.places.now tables.slots.now ∥₁ },
     ghost long: { length leading ≡ 1000 },

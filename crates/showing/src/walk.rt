@@ -14,13 +14,14 @@ use kinds::kind::Kind;
 use records::SlotRecord;
 use vocabulary::vocabulary::Vocabulary;
 
-// How far the writing has come: the slots that are still to be written of each open place, the innermost last; under which tag each
-// place was written; and the tag that the next tagged place gets. (A place without a tag is not written twice: it holds the next one.)
+// How far the writing has come: the slots that are still to be written of each open place, the innermost last; the tag under which
+// each place was written, and none where it was not (a place without a tag of its own has the next one, and is not met again); and
+// the tag that the next tagged place gets.
 #[derive(Drop)]
 pub struct Progress<'a> {
-    pub left: ArrayVec<&'a [SlotRecord], MOST_PLACES>,
-    pub tags: [Option<u16>; MOST_PLACES],
-    pub next: u16,
+    left: ArrayVec<&'a [SlotRecord], MOST_PLACES>,
+    tags: [Option<u16>; MOST_PLACES],
+    next: u16,
 }
 
 impl<'a> Progress<'a> {

@@ -16,8 +16,8 @@ use vocabulary::vocabulary::{KindText, Vocabulary};
 // The bytes that are written to, and how long the text is.
 #[derive(Drop)]
 pub struct Output<'a> {
-    pub bytes: &'a mut [u8],
-    pub len: usize,
+    bytes: &'a mut [u8],
+    pub(crate) len: usize,
 }
 
 impl<'a> Output<'a> {
