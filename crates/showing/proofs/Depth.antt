@@ -1,10 +1,12 @@
 -- Each place is written once, so no more places are open at once than there are.
-use Rattle.std.proofs.Common.{◌≡◌, ℕ, zero, suc, ◌<◌, ◌≤◌, Bool, true, false, ◌||◌, eqb, ◌≢◌, ◌⊎◌, List, [], ◌∷◌, ◌++◌, length, get_or, take, drop, Option, sym, refl, ap, ◌∙◌, subst, inl, inr, ⊎_elim, arith}
+use Rattle.std.proofs.Common.{◌≡◌, ℕ, zero, suc, ◌<◌, ◌≤◌, Bool, true, false, ◌||◌, eqb, ◌≢◌, ◌⊎◌, List, [], ◌∷◌, ◌++◌, length, get_or, drop, Option, sym, refl, ap, ◌∙◌, subst, inl, inr, ⊎_elim, arith}
 use Rattle.std.proofs.lemmas.List.{length_push, get_or_push, get_or_append_left}
 use Rattle.std.proofs.lemmas.Bool.{cases_eq, cases_lt, false≢true, or_cases, or_from, or_parts, or_left, or_right, eqb-true, eqb-false, eq-eqb, ne_eqb}
+use Rattle.std.specs.List.{All}
+use Rattle.std.proofs.lemmas.List.Elements.{All-nil, All-cons, All-head, All-tail, All-take, All-drop, All-from_get_or}
 use Rattle.kinds.specs.Laws.{KindLaws}
 use Rattle.records.specs.declared.SlotRecord.{SlotRecord}
-use Rattle.records.specs.Tables.{target_at, count_at, first_at}
+use Rattle.records.specs.Tables.{blank_slot, count_at, first_at}
 use Rattle.records.specs.Sheets.{Sheet, size, Formed}
 use Rattle.records.proofs.Shape.{target_in}
 use Rattle.records.proofs.Pigeons.{pigeon}
@@ -36,9 +38,6 @@ has_new (r ∷ qs) q = or_right (eqb r q) (has (qs ++ (q ∷ [])) q) (has_new qs
 pub has_push : (qs : List ℕ) (q p : ℕ) → has (qs ++ (q ∷ [])) p ≡ true → (q ≡ p) ⊎ (has qs p ≡ true)
 has_push qs q p e = ⊎_elim (λ is. inl is) (λ other. inr (sym (has_other qs q p other) ∙ e)) (cases_eq q p)
 
-pub has_old : (qs : List ℕ) (q p : ℕ) → has qs p ≡ true → has (qs ++ (q ∷ [])) p ≡ true
-has_old qs q p e = ⊎_elim (λ is. subst (λ (r : ℕ). has (qs ++ (q ∷ [])) r ≡ true) is (has_new qs q)) (λ other. has_other qs q p other ∙ e) (cases_eq q p)
-
 -- all different, and all below n
 pub record Apart (n : ℕ) (qs : List ℕ) : Type 0 where
   pub low : (p : ℕ) → has qs p ≡ true → p < n
@@ -56,66 +55,53 @@ apart_push n qs q a h none = record {
 few : (n : ℕ) (qs : List ℕ) → Apart n qs → length qs ≤ n
 few n qs a = pigeon (length qs) n (λ i. get_or qs i 0) (λ i h. a.low (get_or qs i 0) (has_at qs i h)) a.apart
 
--- ---- the targets of slots
+-- ---- what holds of every slot
 
--- every slot leads to a place below n
-abbrev pub Aimed : ℕ → List SlotRecord → Type 0
-Aimed n [] = Unit {0}
-Aimed n (x ∷ xs) = (x.target < n) × Aimed n xs
+-- holds still when the next one is taken
+all_next : (P : SlotRecord → Type 0) (x : SlotRecord) (xs : List SlotRecord) (left : List (List SlotRecord)) → All (λ l. All P l) ((x ∷ xs) ∷ left) → All (λ l. All P l) (xs ∷ left)
+all_next P x xs left h = All-cons (λ l. All P l) xs left (All-tail P x xs (All-head (λ l. All P l) (x ∷ xs) left h)) (All-tail (λ l. All P l) (x ∷ xs) left h)
 
-abbrev AllAimed : ℕ → List (List SlotRecord) → Type 0
-AllAimed n [] = Unit {0}
-AllAimed n (xs ∷ left) = Aimed n xs × AllAimed n left
-
-aimed_drop : (n k : ℕ) (xs : List SlotRecord) → Aimed n xs → Aimed n (drop k xs)
-aimed_drop n zero xs a = a
-aimed_drop n (suc k) [] a = tt
-aimed_drop n (suc k) (x ∷ xs) a = aimed_drop n k xs a.1
-
-aimed_take : (n k : ℕ) (xs : List SlotRecord) → Aimed n xs → Aimed n (take k xs)
-aimed_take n zero xs a = tt
-aimed_take n (suc k) [] a = tt
-aimed_take n (suc k) (x ∷ xs) a = (a.0, aimed_take n k xs a.1)
-
-aimed_from : (n : ℕ) (xs : List SlotRecord) → ((i : ℕ) → i < length xs → target_at xs i < n) → Aimed n xs
-aimed_from n [] h = tt
-aimed_from n (x ∷ xs) h = (h 0 (omega arith), aimed_from n xs (λ i l. h (suc i) (omega arith)))
+pub all_first : (P : SlotRecord → Type 0) (x : SlotRecord) (xs : List SlotRecord) (left : List (List SlotRecord)) → All (λ l. All P l) ((x ∷ xs) ∷ left) → P x
+all_first P x xs left h = All-head P x xs (All-head (λ l. All P l) (x ∷ xs) left h)
 
 module _ {K F : Type 0} {below : K → K → Type 0} {top : K} {form : K → F} {kind : F → Option K} (laws : KindLaws below top form kind) (texts : K → Text) (s : Sheet K) (formed : Formed s) where
-  block_aimed : (p : ℕ) → Aimed (size s) (slots_of s p)
-  block_aimed p = aimed_take (size s) (count_at s.places p) (drop (first_at s.places p) s.slots) (aimed_drop (size s) (first_at s.places p) s.slots (aimed_from (size s) s.slots (target_in s formed)))
+  block_all : (P : SlotRecord → Type 0) → All P s.slots → (p : ℕ) → All P (slots_of s p)
+  block_all P all p = All-take P (count_at s.places p) (drop (first_at s.places p) s.slots) (All-drop P (first_at s.places p) s.slots all)
+
+  -- what holds of every slot of the sheet holds of those that are left
+  pub all_left : (P : SlotRecord → Type 0) → All P s.slots → {left : List (List SlotRecord)} {written text : List ℕ} → Walk laws texts s left written text → All (λ l. All P l) left
+  all_left P all begins = All-cons (λ l. All P l) (slots_of s 0) [] (block_all P all 0) (All-nil (λ l. All P l))
+  all_left P all (closes {left} w) = All-tail (λ l. All P l) [] left (all_left P all w)
+  all_left P all (refers {x} {xs} {left} w old) = all_next P x xs left (all_left P all w)
+  all_left P all (enters {x} {xs} {left} w new) = All-cons (λ l. All P l) (slots_of s x.target) (xs ∷ left) (block_all P all x.target) (all_next P x xs left (all_left P all w))
+
+  aimed : All (λ x. x.target < size s) s.slots
+  aimed = All-from_get_or (λ x. x.target < size s) s.slots blank_slot (target_in s formed)
 
   -- what holds at each turn
   record Level (left : List (List SlotRecord)) (written : List ℕ) : Type 0 where
     depth : length left ≤ length written
-    aimed : AllAimed (size s) left
     apart : Apart (size s) written
 
   level : {left : List (List SlotRecord)} {written text : List ℕ} → Walk laws texts s left written text → Level left written
   level begins = record {
     depth = omega arith;
-    aimed = (block_aimed 0, tt);
     apart = record {
       low = λ p e. ⊎_elim (λ is. subst (λ (r : ℕ). r < size s) (eqb-true 0 p is) formed.rooted) (λ no'. absurd (false≢true no')) (or_cases (eqb 0 p) false e);
       apart = λ i j l m. absurd (omega arith);
     };
   }
-  level (closes w) = let h = level w in record { depth = omega (arith, h.depth); aimed = h.aimed.1; apart = h.apart }
-  level (refers w old) = let h = level w in record { depth = h.depth; aimed = (h.aimed.0.1, h.aimed.1); apart = h.apart }
+  level (closes w) = let h = level w in record { depth = omega (arith, h.depth); apart = h.apart }
+  level (refers w old) = let h = level w in record { depth = h.depth; apart = h.apart }
   level (enters {x} {xs} {left} {written} w new) =
       let h = level w in
       record {
         depth = omega (arith, h.depth, length_push written x.target);
-        aimed = (block_aimed x.target, (h.aimed.0.1, h.aimed.1));
-        apart = apart_push (size s) written x.target h.apart h.aimed.0.0 new;
+        apart = apart_push (size s) written x.target h.apart (all_first (λ y. y.target < size s) x xs left (all_left (λ y. y.target < size s) aimed w)) new;
       }
 
   pub shallow : {left : List (List SlotRecord)} {written text : List ℕ} → Walk laws texts s left written text → length left ≤ size s
   shallow {written = written} w = let h = level w in omega (arith, h.depth, few (size s) written h.apart)
-
-  -- a place that was written is one of the sheet
-  pub written_low : {left : List (List SlotRecord)} {written text : List ℕ} → Walk laws texts s left written text → (p : ℕ) → has written p ≡ true → p < size s
-  written_low w p e = (level w).apart.low p e
 
   pub not_deep : size s ≤ 1000 → TooDeep laws texts s → ⊥
   not_deep few d = omega (arith, shallow d.walk, d.deep)

@@ -4,5 +4,4 @@ pub mod Depth
 pub mod Tagging
 pub mod Progressing
 pub mod Stepping
-pub mod Filling
 pub mod Answering

@@ -1,42 +1,47 @@
 -- One piece after another is the two of them together.
-use Rattle.std.proofs.Common.{◌≡◌, ℕ, suc, ◌+◌, ◌<◌, true, List, [], ◌∷◌, ◌++◌, length, get_or, take, set, ℤ, pos, negsuc, nat_abs, decimal, sym, refl, ap, ◌∙◌, subst, append_assoc, add-zero, arith, length-append}
+use Rattle.std.proofs.Common.{◌≡◌, ℕ, suc, ◌+◌, ◌-◌, ◌^◌, ◌<◌, ◌≤◌, min, List, [], ◌∷◌, ◌++◌, length, set, sym, refl, ap, ◌∙◌, subst, append_assoc, append-nil, add-zero, arith, length-append}
 use lib.Seq.{sets}
-use Rattle.std.proofs.lemmas.List.{take_more}
-use lib.Signed.{lt_z}
-use Rattle.std.proofs.lemmas.Bool.{ltb-true}
-use Rattle.std.specs.Fmt.{signed_decimal}
-use Rattle.showing.specs.Shown.{hashed}
-use Rattle.showing.specs.Writing.{Puts}
+use Rattle.std.proofs.lemmas.List.{set_past}
+use Rattle.showing.specs.declared.writing.Output.{Output}
+use Rattle.showing.specs.Writing.{Adds, Holds}
 
 sets_append : (l : List ℕ) (i j : ℕ) (xs ys : List ℕ) → j ≡ i + length xs → sets (sets l i xs) j ys ≡ sets l i (xs ++ ys)
 sets_append l i j [] ys e = ap (λ (k : ℕ). sets l k ys) (e ∙ add-zero i)
 sets_append l i j (x ∷ xs) ys e = sets_append (set l i x) (suc i) j xs ys (omega arith)
 
-pub puts_none : (out : List ℕ) (at : ℕ) → Puts [] out at out at
-puts_none out at = record { count = sym (add-zero at); out = refl }
+-- one byte more
+one_more : (first written : List ℕ) (byte : ℕ) → set (sets first 0 written) (length written) byte ≡ sets first 0 (written ++ byte ∷ [])
+one_more first written byte = sets_append first 0 (length written) written (byte ∷ []) (omega arith)
 
-pub puts_one : (byte : ℕ) (out : List ℕ) (at : ℕ) → Puts (byte ∷ []) out at (set out at byte) (at + 1)
-puts_one byte out at = record { count = refl; out = refl }
-
-pub puts_then : {xs ys b m a : List ℕ} {i j k : ℕ} → Puts xs b i m j → Puts ys m j a k → Puts (xs ++ ys) b i a k
-puts_then {xs} {ys} {b} {m} {a} {i} {j} {k} p q = record {
-  count = simp length-append (omega (arith, p.count, q.count));
-  out = q.out ∙ ap (λ (l : List ℕ). sets l j ys) p.out ∙ sets_append b i j xs ys p.count;
+pub put_inside : (t u : Output) (byte : ℕ) → u.bytes.ghost_name ≡ t.bytes.ghost_name → t.len < length t.bytes.now → length t.bytes.now < 2 ^ 64 → u.bytes.now ≡ set t.bytes.now t.len byte → u.len ≡ min (t.len + 1) (2 ^ 64 - 1) → Adds (byte ∷ []) t u
+put_inside t u byte same inside fits out len = record {
+  same = same;
+  more = λ first written h.
+      let at : t.len ≡ length written = omega (arith, h.count) in
+      record {
+        count = simp length-append (omega (arith, len, h.count));
+        bytes = out ∙ (λ i. set (h.bytes i) (at i) byte) ∙ one_more first written byte;
+      };
 }
 
--- the same text by another name
-pub puts_as : {xs ys b a : List ℕ} {i k : ℕ} → xs ≡ ys → Puts xs b i a k → Puts ys b i a k
-puts_as {xs} {ys} {b} {a} {i} {k} e p = subst (λ (t : List ℕ). Puts t b i a k) e p
+pub put_past : (t u : Output) (byte : ℕ) → u.bytes.ghost_name ≡ t.bytes.ghost_name → length t.bytes.now ≤ t.len → u.bytes.now ≡ t.bytes.now → u.len ≡ min (t.len + 1) (2 ^ 64 - 1) → Adds (byte ∷ []) t u
+put_past t u byte same past out len = record {
+  same = same;
+  more = λ first written h. record {
+    count = simp length-append (omega (arith, len, h.count));
+    bytes = out ∙ sym (set_past t.bytes.now (length written) byte (omega (arith, h.count))) ∙ (λ i. set (h.bytes i) (length written) byte) ∙ one_more first written byte;
+  };
+}
 
--- one byte more of a list
-pub puts_more : (bytes before out : List ℕ) (at end n i : ℕ) (after : List ℕ) → i < length bytes → Puts (take i bytes) before at out end → Puts (get_or bytes i 0 ∷ []) out end after n → Puts (take (i + 1) bytes) before at after n
-puts_more bytes before out at end n i after h p q = puts_as (sym (take_more bytes i 0 h)) (puts_then p q)
+pub adds_none : (t : Output) → Adds [] t t
+adds_none t = record { same = refl; more = λ first written h. subst (λ (w : List ℕ). Holds first w t) (sym (append-nil written)) h }
 
--- a tag, and what follows it
-pub puts_hashed : (n : ℕ) {ys b m a : List ℕ} {i j k : ℕ} → Puts (hashed n []) b i m j → Puts ys m j a k → Puts (hashed n ys) b i a k
-puts_hashed n {ys} p q = puts_as (ap (λ (t : List ℕ). 35 ∷ t) (append_assoc (decimal n) [] ys)) (puts_then p q)
+pub adds_then : {xs ys : List ℕ} {t u v : Output} → Adds xs t u → Adds ys u v → Adds (xs ++ ys) t v
+adds_then {xs} {ys} {t} {u} {v} p q = record {
+  same = q.same ∙ p.same;
+  more = λ first written h. subst (λ (w : List ℕ). Holds first w v) (append_assoc written xs ys) (q.more first (written ++ xs) (p.more first written h));
+}
 
--- the text of a number below 0
-pub minus : (z : ℤ) → lt_z z (pos 0) ≡ true → 45 ∷ decimal (nat_abs z) ≡ signed_decimal z
-minus (pos n) h = absurd (omega (arith, ltb-true n 0 h))
-minus (negsuc n) h = refl
+-- the same piece by another name
+pub adds_as : {xs ys : List ℕ} {t u : Output} → xs ≡ ys → Adds xs t u → Adds ys t u
+adds_as {xs} {ys} {t} {u} e p = subst (λ (piece : List ℕ). Adds piece t u) e p

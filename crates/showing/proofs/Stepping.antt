@@ -1,173 +1,130 @@
--- One turn over the tables of a sheet.
-use Rattle.std.proofs.Common.{◌≡◌, ℕ, ◌+◌, ◌-◌, ◌*◌, ◌^◌, ◌<◌, ◌≤◌, Bool, true, false, cond, eqb, leb, List, [], ◌∷◌, ◌++◌, map, length, get_or, Option, sym, ap, ◌∙◌, subst, ⊎_elim, append_assoc, append-nil, arith}
-use Rattle.std.proofs.lemmas.List.{get_or_past, length-map}
-use Rattle.std.proofs.lemmas.Bool.{cases_Bool, cases_lt}
-use Rattle.kinds.specs.Laws.{KindLaws, loaded}
+-- One turn over a source.
+use Rattle.std.proofs.Common.{◌≡◌, ℕ, ◌+◌, ◌<◌, ◌≤◌, Bool, true, false, cond, List, [], ◌++◌, ◌∷◌, length, get_or, take, drop, None, sym, refl, ◌∙◌, subst, append_assoc, append-nil, arith}
+use Rattle.std.specs.Bool.{then_some}
+use mathlib.Core.Logic.{∥∥₁_elim}
+use native.Mathlib.Bridge.{le_prop}
+use Rattle.kinds.specs.Laws.{KindLaws}
+use Rattle.kinds.specs.declared.kind.Kind.{Ghosts}
 use Rattle.names.specs.Names.{IsName}
 use Rattle.records.specs.declared.PlaceRecord.{PlaceRecord}
 use Rattle.records.specs.declared.SlotRecord.{SlotRecord}
-use Rattle.records.specs.Tables.{blank_slot, first_at, count_at, kind_at}
-use Rattle.records.specs.Sheets.{Sheet, size, Formed, sheet_of}
-use Rattle.records.proofs.Reading.{same_size, same_first, same_count, kind_read, formed_read}
-use Rattle.records.proofs.Shape.{ends, target_in}
+use Rattle.records.specs.Tables.{first_at, count_at}
+use Rattle.records.specs.Sheets.{Sheet, size, Formed}
+use Rattle.records.proofs.Reading.{same_size, same_first, same_count, formed_read}
 use Rattle.sheets.specs.Checks.{IsSheet}
-use Rattle.vocabulary.specs.Texts.{Text, bytes}
+use Rattle.sheets.specs.declared.sheet.Sheet.{Sheet as View}
+use Rattle.sheets.proofs.Showing.{shows_sheet}
+use Rattle.vocabulary.specs.Texts.{Text}
 use Rattle.showing.specs.declared.walk.Progress.{Progress}
-use Rattle.showing.specs.Shown.{tagged, hashed, naming}
-use Rattle.showing.specs.Tags.{marks}
-use Rattle.showing.specs.Writing.{Puts}
-use Rattle.showing.specs.Progress.{innermost, Leading, Fresh, Ready, entered, closed, spent, after_slot, target_text, measure, Going, Begun, Turned}
-use Rattle.showing.proofs.Progressing.{next_slot, spent_falls, Paused, top_low, room, start, going_closed, going_spent, going_refers, going_enters, going_begins}
-use Rattle.showing.proofs.Putting.{puts_as, puts_none, puts_then}
+use Rattle.showing.specs.declared.writing.Output.{Output}
+use Rattle.showing.specs.declared.source.Source.{Source}
+use Rattle.showing.specs.Shown.{tagged, hashed, naming, slots_of, Shown}
+use Rattle.showing.specs.Source.{held}
+use Rattle.showing.specs.Writing.{Adds, marked}
+use Rattle.showing.specs.Progress.{unwritten, Room, Fresh, Entered, Ended, Taken, measure, opened, Visited, Going, Begun, Since}
+use Rattle.showing.proofs.Progressing.{falls_taken, few_open, taken_target, taken_name, going_ended, paused, room, going_reached, falls_reached, going_begins, going_ends}
+use Rattle.showing.proofs.Putting.{adds_none, adds_then}
 
-module _ {K F : Type 0} {below : K → K → Type 0} {top : K} {form : K → F} {kind : F → Option K} (laws : KindLaws below top form kind) (texts : K → Text) (ps : List (PlaceRecord F)) (ss : List SlotRecord) where
-  -- a text is written so far, and what is left cannot overflow the count
-  pub record Coming (w : Progress) (before out : List ℕ) (at : ℕ) : Type 0 where
-    pub text : List ℕ
-    pub going : Going laws texts (sheet_of laws ps ss) w text
-    pub puts : Puts text before 0 out at
-    pub bound : at + 64 * measure w ≤ 2 ^ 34
+-- that a source holds a sheet is known whole
+pub is_sheet : {K F : Type 0} {kind : Ghosts K F} (source : Source K F kind) → IsSheet source.tables.places.now source.tables.slots.now
+is_sheet {K} {F} {kind} source =
+    let rooted : 0 < length source.tables.places.now = ∥∥₁_elim source.sheet le_prop (λ x. x.formed.rooted) in
+    let view : View K F kind = record {
+      places = source.tables.places;
+      slots = source.tables.slots;
+      limits = (∥∥₁_elim source.sheet le_prop (λ x. x.few_places), ∥∥₁_elim source.sheet le_prop (λ x. x.few_slots));
+      shown = λ h. source.sheet;
+      nothing = λ none. absurd (omega arith);
+    } in
+    shows_sheet view rooted
 
-  -- and so it is some turns later
-  pub record Since (w v : Progress) (first : List ℕ) (at : ℕ) (new : List ℕ) (end : ℕ) : Type 0 where
-    pub piece : List ℕ
-    pub puts : Puts piece first at new end
-    pub going : (text : List ℕ) → Going laws texts (sheet_of laws ps ss) w text → Going laws texts (sheet_of laws ps ss) v (text ++ piece)
-    pub bound : end + 64 * measure v ≤ 2 ^ 34
+-- the same place opened, by other names of its slots and of whether it has a tag
+pub entered_as : {w v : Progress} {p : ℕ} {xs ys : List SlotRecord} {a b : Bool} → xs ≡ ys → a ≡ b → Entered w p xs a v → Entered w p ys b v
+entered_as {w} e f h = record { left = h.left ∙ (λ i. e i ∷ unwritten w); tags = h.tags; next = h.next ∙ (λ i. cond (f i) (w.next + 1) w.next) }
 
-module _ {K F : Type 0} {below : K → K → Type 0} {top : K} {form : K → F} {kind : F → Option K} (laws : KindLaws below top form kind) (texts : K → Text) (ps : List (PlaceRecord F)) (ss : List SlotRecord) (sheet : IsSheet ps ss) where
-  abbrev pub s : Sheet K
-  s = sheet_of laws ps ss
+pub marked_then : (b : Bool) (n : ℕ) → marked (then_some b n) ≡ cond b (hashed n (32 ∷ [])) []
+marked_then true n = refl
+marked_then false n = refl
 
-  pub formed : Formed s
-  formed = formed_read laws (record { places = ps; slots = ss }) sheet.formed
+module _ {K F : Type 0} {kind : Ghosts K F} (texts : K → Text) (source : Source K F kind) where
+  abbrev laws : KindLaws kind.below kind.top kind.form kind.kind
+  laws = kind.laws
 
-  pub small : size s ≤ 1000
-  small = omega (arith, same_size laws ps, sheet.few_places)
+  abbrev ps : List (PlaceRecord F)
+  ps = source.tables.places.now
 
-  abbrev index : Progress → ℕ
-  index w = first_at ps (innermost w) + count_at ps (innermost w) - get_or w.left (innermost w) 0
+  abbrev ss : List SlotRecord
+  ss = source.tables.slots.now
 
-  pub ready : (w : Progress) → Begun laws texts s w → 0 < w.depth → Ready ps ss w
-  ready w b some =
-      let p : ℕ = innermost w in
-      let low = top_low laws texts s formed small w b.text b.going some in
-      record {
-        some = some;
-        deep = b.going.right.depth;
-        low = omega (arith, small);
-        fits = omega (arith, b.going.right.fits p, same_count laws ps p);
-        ends = omega (arith, ends s formed p low, same_count laws ps p, same_first laws ps p);
-      }
+  abbrev s : Sheet K
+  s = held source
 
-  index_low : (w : Progress) → Begun laws texts s w → 0 < w.depth → 0 < get_or w.left (innermost w) 0 → index w < length ss
-  index_low w b some more = let r = ready w b some in omega (arith, r.fits, r.ends)
+  formed : Formed s
+  formed = formed_read laws (record { places = ps; slots = ss }) (is_sheet source).formed
 
-  pub slot_target : (w : Progress) (x : SlotRecord) → Begun laws texts s w → 0 < w.depth → 0 < get_or w.left (innermost w) 0 → x ≡ get_or ss (index w) blank_slot → x.target < length ps
-  slot_target w x b some more e = omega (arith, ap (λ (y : SlotRecord). y.target) e, target_in s formed (index w) (index_low w b some more), same_size laws ps)
+  small : size s ≤ 1000
+  small = omega (arith, same_size laws ps, (is_sheet source).few_places)
 
-  pub slot_name : (w : Progress) (x : SlotRecord) → Begun laws texts s w → 0 < w.depth → 0 < get_or w.left (innermost w) 0 → x ≡ get_or ss (index w) blank_slot → IsName x.name
-  slot_name w x b some more e = subst (λ (y : SlotRecord). IsName y.name) (sym e) (sheet.named (index w) (index_low w b some more))
+  -- the slots of a place, as the tables have them
+  pub block_read : (p : ℕ) → take (count_at ps p) (drop (first_at ps p) ss) ≡ slots_of s p
+  block_read p =
+      let n = sym (same_count laws ps p) in
+      let f = sym (same_first laws ps p) in
+      λ i. take (n i) (drop (f i) ss)
 
-  pub paused : (w u : Progress) (x : SlotRecord) (text : List ℕ) → Going laws texts s w text → 0 < w.depth → 0 < get_or w.left (innermost w) 0 → u ≡ spent w (innermost w) → x ≡ get_or ss (index w) blank_slot → Paused laws texts s formed small u x text
-  paused w u x text g some more is e =
-      let p : ℕ = innermost w in
-      let same : next_slot s w.left p ≡ x = (λ i. get_or ss (same_first laws ps p i + same_count laws ps p i - get_or w.left p 0) blank_slot) ∙ sym e in
-      subst (λ (y : SlotRecord). Paused laws texts s formed small u y text) same (subst (λ (v : Progress). Paused laws texts s formed small v (next_slot s w.left p) text) (sym is) (going_spent laws texts s formed small w text g some more))
+  pub open_few : (w : Progress) → Begun laws texts s w → length w.left.items ≤ 1000
+  open_few w b = few_open laws texts s formed small w b.text b.going
 
-  pub slot_room : (w u : Progress) (x : SlotRecord) → Begun laws texts s w → 0 < w.depth → 0 < get_or w.left (innermost w) 0 → u ≡ spent w (innermost w) → x ≡ get_or ss (index w) blank_slot → get_or u.written x.target false ≡ false → (u.depth < 1000) × (u.next < 60000)
-  slot_room w u x b some more is e new = room laws texts s formed small u x b.text (paused w u x b.text b.going some more is e) (omega (arith, slot_target w x b some more e, sheet.few_places)) new
+  pub slot_target : (w u : Progress) (x : SlotRecord) → Begun laws texts s w → Taken w x u → x.target < length ps
+  slot_target w u x b t = omega (arith, taken_target laws texts s formed small w u x b.text b.going t, same_size laws ps)
 
-  pub turned_closed : (w v : Progress) (out new : List ℕ) (at end : ℕ) → 0 < w.depth → get_or w.left (innermost w) 0 ≡ 0 → v ≡ closed w → Puts (41 ∷ []) out at new end → Turned laws texts s w v out at new end
-  turned_closed w v out new at end some none is puts = record {
-    piece = 41 ∷ [];
-    puts = puts;
-    going = λ text g. subst (λ (u : Progress). Going laws texts s u (text ++ (41 ∷ []))) (sym is) (going_closed laws texts s formed small w text g some none);
-    short = omega (arith, puts.count);
-    falls = omega (arith, ap measure is);
+  pub slot_name : (w u : Progress) (x : SlotRecord) → Begun laws texts s w → Taken w x u → IsName x.name
+  slot_name w u x b t = taken_name laws texts s formed small w u x b.text (is_sheet source).named b.going t
+
+  slot_low : (w u : Progress) (x : SlotRecord) → Begun laws texts s w → Taken w x u → x.target < 1000
+  slot_low w u x b t = omega (arith, slot_target w u x b t, (is_sheet source).few_places)
+
+  pub slot_room : (w u : Progress) (x : SlotRecord) → Begun laws texts s w → Taken w x u → get_or u.tags x.target None ≡ None → Room u
+  slot_room w u x b t new = room laws texts s formed small u x b.text (paused laws texts s formed small w u x b.text b.going t) (slot_low w u x b t) new
+
+  pub since_ended : (w v : Progress) (old new : Output) → Ended w v → Adds (41 ∷ []) old new → Since laws texts s w v old new
+  since_ended w v old new e adds = record { piece = 41 ∷ []; adds = adds; going = λ text g. going_ended laws texts s formed small w v text g e }
+
+  pub since_slot : (w u v : Progress) (x : SlotRecord) (old new : Output) → Begun laws texts s w → Taken w x u → Visited laws texts s x u v old new → Since laws texts s w v old new
+  since_slot w u v x old new b t h = record {
+    piece = naming laws texts s x ++ h.piece;
+    adds = h.adds;
+    going = λ text g. going_reached laws texts s formed small u v x text h.piece (get_or u.tags x.target None) refl h.reached (paused laws texts s formed small w u x text g t) (slot_low w u x b t);
   }
 
-  module _ (leading : List ℕ) (right : Leading leading ss) where
-    marks_tagged : (p : ℕ) → p < 1000 → marks leading p ≡ tagged s p
-    marks_tagged p h = ap (λ (n : ℕ). leb (cond (eqb p 0) 1 2) n) (right.counts p h)
+  pub falls_slot : (w u v : Progress) (x : SlotRecord) (old new : Output) → Begun laws texts s w → Taken w x u → Visited laws texts s x u v old new → measure ss v < measure ss w
+  falls_slot w u v x old new b t h =
+      let r = (paused laws texts s formed small w u x b.text b.going t).right in
+      omega (arith, falls_taken ss w u x t, falls_reached laws texts s formed small u v x.target h.piece (get_or u.tags x.target None) (omega (arith, r.long, slot_low w u x b t)) refl h.reached)
 
-    opening_is : (w : Progress) (p : ℕ) → p < 1000 → 40 ∷ (cond (marks leading p) (hashed w.next (32 ∷ [])) [] ++ bytes (texts (loaded laws (kind_at (form top) ps p)))) ≡ start laws texts s formed small w p
-    opening_is w p h =
-        let m = marks_tagged p h in
-        let k = sym (kind_read laws ps p) in
-        λ i. 40 ∷ (cond (m i) (hashed w.next (32 ∷ [])) [] ++ bytes (texts (k i)))
+  -- ---- the loop
 
-    after : (u : Progress) (x : SlotRecord) (text : List ℕ) → Paused laws texts s formed small u x text → x.target < 1000 → Going laws texts s (after_slot leading u x.target) (text ++ (naming laws texts s x ++ target_text laws texts ps leading u x.target))
-    after u x text p low =
-        let q : ℕ = x.target in
-        let A : List ℕ = 40 ∷ hashed (get_or u.tag q 0) (41 ∷ []) in
-        let B : List ℕ = 40 ∷ (cond (marks leading q) (hashed u.next (32 ∷ [])) [] ++ bytes (texts (loaded laws (kind_at (form top) ps q)))) in
-        let G : Bool → Type 0 = λ b. Going laws texts s (cond b u (entered u q (marks leading q))) (text ++ (naming laws texts s x ++ cond b A B)) in
-        ⊎_elim
-        (λ old. subst G (sym old) (going_refers laws texts s formed small u x text p low old))
-        (λ new.
-        let m = sym (marks_tagged q low) in
-        let o = sym (opening_is u q low) in
-        let H : Bool → List ℕ → Type 0 = λ b t. Going laws texts s (entered u q b) (text ++ (naming laws texts s x ++ t)) in
-        subst G (sym new) (subst (λ (b : Bool). H b B) m (subst (λ (t : List ℕ). H (tagged s q) t) o (going_enters laws texts s formed small u x text p low new))))
-        (cases_Bool (get_or u.written q false))
+  pub since_none : (w : Progress) (o : Output) → Since laws texts s w w o o
+  since_none w o = record {
+    piece = [];
+    adds = adds_none o;
+    going = λ text g. subst (λ (t : List ℕ). Going laws texts s w t) (sym (append-nil text)) g;
+  }
 
-    lower : (w u : Progress) (q : ℕ) (b : Bool) → innermost w < length w.left → 0 < get_or w.left (innermost w) 0 → u ≡ spent w (innermost w) → measure (cond b u (entered u q (marks leading q))) < measure w
-    lower w u q true inside more is = omega (arith, ap measure is, spent_falls s w.left (innermost w) inside more)
-    lower w u q false inside more is = omega (arith, ap measure is, spent_falls s w.left (innermost w) inside more)
+  pub since_more : (w u v : Progress) (first old new : Output) → Since laws texts s w u first old → Since laws texts s u v old new → Since laws texts s w v first new
+  since_more w u v first old new c t = record {
+    piece = c.piece ++ t.piece;
+    adds = adds_then c.adds t.adds;
+    going = λ text g. subst (λ (k : List ℕ). Going laws texts s v k) (append_assoc text c.piece t.piece) (t.going (text ++ c.piece) (c.going text g));
+  }
 
-    pub turned_slot : (w u v : Progress) (x : SlotRecord) (out new : List ℕ) (at end : ℕ) → Begun laws texts s w → 0 < w.depth → 0 < get_or w.left (innermost w) 0 → u ≡ spent w (innermost w) → x ≡ get_or ss (index w) blank_slot → v ≡ after_slot leading u x.target → Puts (naming laws texts s x ++ target_text laws texts ps leading u x.target) out at new end → end ≤ at + 64 → Turned laws texts s w v out at new end
-    turned_slot w u v x out new at end b some more is e then puts short =
-        let low : x.target < 1000 = omega (arith, slot_target w x b some more e, sheet.few_places) in
-        let piece : List ℕ = naming laws texts s x ++ target_text laws texts ps leading u x.target in
-        record {
-          piece = piece;
-          puts = puts;
-          going = λ text g. subst (λ (z : Progress). Going laws texts s z (text ++ piece)) (sym then) (after u x text (paused w u x text g some more is e) low);
-          short = short;
-          falls = subst (λ (z : Progress). measure z < measure w) (sym then) (lower w u x.target (get_or u.written x.target false) (omega (arith, b.going.right.left_long, (ready w b some).low)) more is);
-        }
+  pub begun_since : (w v : Progress) (first new : Output) → Begun laws texts s w → Since laws texts s w v first new → Begun laws texts s v
+  begun_since w v first new b c = record { text = b.text ++ c.piece; going = c.going b.text b.going }
 
-    -- ---- the loop
+  -- the first place is opened
+  pub going_first : (w v : Progress) → Fresh w → Entered w 0 (slots_of s 0) (tagged s 0) v → Going laws texts s v (opened laws texts s w.next 0)
+  going_first w v f e = going_begins laws texts s formed small w v f e
 
-    pub coming_begins : (w v : Progress) (before out : List ℕ) (at : ℕ) → Fresh ps w → v ≡ entered w 0 (marks leading 0) → Puts (40 ∷ (cond (marks leading 0) (hashed w.next (32 ∷ [])) [] ++ bytes (texts (loaded laws (kind_at (form top) ps 0))))) before 0 out at → at ≤ 40 → Coming laws texts ps ss v before out at
-    coming_begins w v before out at fresh is puts short =
-        let m = marks_tagged 0 (omega arith) in
-        let e : entered w 0 (tagged s 0) ≡ v = ap (λ (b : Bool). entered w 0 b) (sym m) ∙ sym is in
-        record {
-          text = start laws texts s formed small w 0;
-          going = subst (λ (z : Progress). Going laws texts s z (start laws texts s formed small w 0)) e (going_begins laws texts s formed small ps w fresh (same_count laws ps));
-          puts = puts_as (opening_is w 0 (omega arith)) puts;
-          bound = omega (arith, ap measure is, fresh.few, fresh.depth);
-        }
-
-    pub since_none : (w : Progress) (before out : List ℕ) (at : ℕ) → Coming laws texts ps ss w before out at → Since laws texts ps ss w w out at out at
-    since_none w before out at c = record {
-      piece = [];
-      puts = puts_none out at;
-      going = λ text g. subst (λ (t : List ℕ). Going laws texts s w t) (sym (append-nil text)) g;
-      bound = c.bound;
-    }
-
-    pub since_more : (w u v : Progress) (first out new : List ℕ) (start at end : ℕ) → Since laws texts ps ss w u first start out at → Turned laws texts s u v out at new end → Since laws texts ps ss w v first start new end
-    since_more w u v first out new start at end c t = record {
-      piece = c.piece ++ t.piece;
-      puts = puts_then c.puts t.puts;
-      going = λ text g. subst (λ (k : List ℕ). Going laws texts s v k) (append_assoc text c.piece t.piece) (t.going (text ++ c.piece) (c.going text g));
-      bound = omega (arith, c.bound, t.falls, t.short);
-    }
-
-    pub coming_since : (w v : Progress) (before out new : List ℕ) (at end : ℕ) → Coming laws texts ps ss w before out at → Since laws texts ps ss w v out at new end → Coming laws texts ps ss v before new end
-    coming_since w v before out new at end c t = record {
-      text = c.text ++ t.piece;
-      going = t.going c.text c.going;
-      puts = puts_then c.puts t.puts;
-      bound = t.bound;
-    }
-
-  pub counts_low : (p : ℕ) → count_at ps p ≤ 4000
-  counts_low p =
-      ⊎_elim
-      (λ low. omega (arith, ends s formed p (omega (arith, same_size laws ps)), same_count laws ps p, sheet.few_slots))
-      (λ past. omega (arith, get_or_past (map (λ r. r.count) ps) p 0 (omega (arith, length-map ps (λ r. r.count)))))
-      (cases_lt p (length ps))
+  -- no place is open any more
+  pub shown_last : (w : Progress) (text : List ℕ) → Going laws texts s w text → length w.left.items ≡ 0 → Shown laws texts s text
+  shown_last w text g none = going_ends laws texts s formed small w text g none

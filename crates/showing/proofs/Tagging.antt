@@ -1,13 +1,17 @@
--- Counting the slots that lead to each place, and the places that have a tag.
-use Rattle.std.proofs.Common.{◌≡◌, ℕ, ◌+◌, ◌<◌, ◌≤◌, cond, eqb, List, [], ◌∷◌, ◌++◌, length, get_or, take, set, sum_by, sym, refl, ap, ◌∙◌, subst, ⊎_elim, arith}
-use Rattle.std.specs.List.{range_with_len}
-use Rattle.std.proofs.lemmas.List.{get_or-set_same, get_or-set_other, length-take, map-id}
-use Rattle.std.proofs.lemmas.List.Sums.{count_by_more_yes, count_by_more_no, count_by-le-length, sum_by_push}
-use Rattle.std.proofs.lemmas.List.FromFn.{map-range_with_len_more, length-range_with_len}
-use Rattle.std.proofs.lemmas.Bool.{cases_eq, eq-eqb, ne_eqb}
+-- Counting the slots that lead to each place.
+use Rattle.std.proofs.Common.{◌≡◌, ℕ, ◌+◌, ◌<◌, ◌≤◌, cond, eqb, List, [], ◌∷◌, length, get_or, take, set, sym, refl, ap, ◌∙◌, subst, ⊎_elim, arith}
+use Rattle.std.specs.List.{All}
+use Rattle.std.proofs.lemmas.List.Elements.{All-head, All-tail, All-from_get_or}
+use Rattle.std.proofs.lemmas.List.{get_or-set_same, get_or-set_other, get_or_past, length-take}
+use Rattle.std.proofs.lemmas.List.Sums.{count_by_more_yes, count_by_more_no, count_by-le-length, sum_by-cons}
+use Rattle.std.proofs.lemmas.Bool.{cases_eq, cases_lt, eq-eqb, ne_eqb}
 use Rattle.records.specs.declared.SlotRecord.{SlotRecord}
 use Rattle.records.specs.Tables.{blank_slot, target_at}
-use Rattle.showing.specs.Tags.{led, marks, marked_count}
+use Rattle.records.specs.declared.PlaceRecord.{PlaceRecord}
+use Rattle.records.specs.Sheets.{Sheet}
+use Rattle.records.proofs.Shape.{target_in}
+use Rattle.sheets.specs.Checks.{IsSheet}
+use Rattle.showing.specs.Tags.{led}
 
 -- the table is right of the first i slots
 abbrev pub Leads : List ℕ → List SlotRecord → ℕ → Type 0
@@ -26,11 +30,22 @@ leads_more leading ss i long h low inv p l =
 pub led_few : (ss : List SlotRecord) (i p : ℕ) → i ≤ length ss → led (take i ss) p ≤ i
 led_few ss i p h = omega (arith, count_by-le-length (λ x. eqb x.target p) (take i ss), length-take i ss)
 
-counting_more : (n : ℕ) → range_with_len 0 (n + 1) ≡ range_with_len 0 n ++ n ∷ []
-counting_more n = sym (map-id (range_with_len 0 (n + 1))) ∙ map-range_with_len_more (λ (x : ℕ). x) 0 n n (omega arith) ∙ ap (λ (l : List ℕ). l ++ n ∷ []) (map-id (range_with_len 0 n))
+-- no slot leads to a place past those that all of them lead to
+pub led_past : (n p : ℕ) (ss : List SlotRecord) → All (λ x. x.target < n) ss → n ≤ p → led ss p ≡ 0
+led_past n p [] aimed h = refl
+led_past n p (x ∷ ss) aimed h =
+    let other = ne_eqb x.target p (λ e. omega (arith, All-head (λ y. y.target < n) x ss aimed)) in
+    let rest = led_past n p ss (All-tail (λ y. y.target < n) x ss aimed) h in
+    sum_by-cons (λ y. cond (eqb y.target p) 1 0) x ss ∙ (λ i. cond (other i) 1 0 + rest i)
 
-pub marked_more : (leading : List ℕ) (n : ℕ) → marked_count leading (n + 1) ≡ marked_count leading n + cond (marks leading n) 1 0
-marked_more leading n = ap (λ (l : List ℕ). sum_by (λ q. cond (marks leading q) 1 0) l) (counting_more n) ∙ sum_by_push (λ q. cond (marks leading q) 1 0) (range_with_len 0 n) n
+module _ {F : Type 0} {ps : List (PlaceRecord F)} {ss : List SlotRecord} (sheet : IsSheet ps ss) where
+  pub targets_low : (i : ℕ) → i < length ss → target_at ss i < 1000
+  targets_low i h = let s : Sheet F = record { places = ps; slots = ss } in omega (arith, target_in s sheet.formed i h, sheet.few_places)
 
-pub marked_few : (leading : List ℕ) (n : ℕ) → marked_count leading n ≤ n
-marked_few leading n = omega (arith, count_by-le-length (marks leading) (range_with_len 0 n), length-range_with_len 0 n)
+  -- a table of 1,000 counts that is right below 1,000 is right of every place
+  pub leads_all : (leading : List ℕ) → length leading ≡ 1000 → ((p : ℕ) → p < 1000 → get_or leading p 0 ≡ led ss p) → (p : ℕ) → get_or leading p 0 ≡ led ss p
+  leads_all leading long counts p =
+      ⊎_elim
+      (λ low. counts p low)
+      (λ past. get_or_past leading p 0 (omega arith) ∙ sym (led_past 1000 p ss (All-from_get_or (λ x. x.target < 1000) ss blank_slot targets_low) past))
+      (cases_lt p 1000)

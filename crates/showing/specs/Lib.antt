@@ -4,5 +4,6 @@ pub mod FaultLaws
 pub mod Writing
 pub mod Walking
 pub mod Tags
+pub mod Source
 pub mod Progress
 pub mod Showing

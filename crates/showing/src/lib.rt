@@ -1,8 +1,8 @@
 // Showing a sheet: its text, as a line that reads back as the same sheet. The text is measured before it is written, so that a
 // refusal leaves the output as it was.
 //
-// fault: why show is refused, with its number. tags: which places have tags. walk: depth first from the root. writing: the pieces of
-// the text.
+// fault: why show is refused, with its number. source: what is written, and which places have tags. walk: depth first from the root.
+// writing: the output and the pieces of the text.
 #![tactic(auto)]
 
 ghost use Rattle.records.specs.Sheets.{sheet_of};
@@ -13,14 +13,14 @@ ghost use Rattle.showing.specs.Showing.{Leaves, show_checks};
 ghost use Rattle.showing.specs.Walking.{OneText};
 
 use crate::fault::ShowFault;
-use crate::tags::{count_leading, count_tags};
-use crate::walk::write;
+use crate::source::Source;
 use kinds::kind::Kind;
+use records::Tables;
 use sheets::sheet::Sheet;
 use vocabulary::vocabulary::Vocabulary;
 
 pub mod fault;
-mod tags;
+mod source;
 mod walk;
 mod writing;
 
@@ -42,15 +42,16 @@ pub fn show<K: Kind, V: Vocabulary<K>>(
     if sheet.is_empty() {
         return Err(ShowFault::NoPlace);
     }
-    let places = sheet.places();
-    let slots = sheet.slots();
-    let leading = count_leading(slots);
-    if count_tags(&leading, places.len()) > MOST_TAGS {
+    let source = Source::new(Tables {
+        places: sheet.places(),
+        slots: sheet.slots(),
+    });
+    if source.count_tags() > MOST_TAGS {
         return Err(ShowFault::TooManyTags);
     }
-    let length = write::<K, V>(places, slots, &leading, &mut []);
+    let length = source.write::<V>(&mut []);
     if length > MOST_BYTES || length > out.len() {
         return Err(ShowFault::TooLong);
     }
-    Ok(write::<K, V>(places, slots, &leading, out))
+    Ok(source.write::<V>(out))
 }

@@ -1,167 +1,125 @@
-// Depth first from the root, with a stack of the open places. One turn ends a place or writes one slot.
-ghost use Rattle.std.specs.Prelude.{◌≡◌, ℕ, ◌+◌, ◌^◌, ◌<◌, ◌≤◌, false, [], ◌∷◌, ◌++◌, length, if◌then◌else◌, slice_index_or};
-ghost use Rattle.kinds.specs.Laws.{loaded};
+// Depth first from the root, with a stack of what is left of the open places. One turn ends a place or writes one slot.
+ghost use Rattle.std.specs.Prelude.{◌≡◌, ◌<◌, ◌≤◌, None, length, slice_index_or};
+ghost use Rattle.arrayvec.specs.ArrayVec.{array_vec_len};
 ghost use Rattle.names.specs.Names.{IsName};
-ghost use Rattle.names.specs.Spellings.{spelt};
-ghost use Rattle.records.specs.Tables.{count_at, kind_at};
-ghost use Rattle.records.specs.Sheets.{sheet_of};
-ghost use Rattle.sheets.specs.Checks.{IsSheet};
-ghost use Rattle.vocabulary.specs.Texts.{bytes as textBytes};
-ghost use Rattle.showing.specs.Shown.{hashed};
-ghost use Rattle.showing.specs.Tags.{marks};
-ghost use Rattle.showing.specs.Writing.{Puts};
-ghost use Rattle.showing.specs.Progress.{Begun, Fresh, Leading, Ready, Took, Turned, Wrote, after_slot, entered, target_text};
+ghost use Rattle.showing.specs.Shown.{tagged, slots_of};
+ghost use Rattle.showing.specs.Source.{held};
+ghost use Rattle.showing.specs.Writing.{Adds};
+ghost use Rattle.showing.specs.Progress.{Begun, Entered, Fresh, Room, Since, Took, Visited, Wrote, measure, opened};
 
-use crate::tags::{MOST_PLACES, has_tag};
-use crate::writing::{put, put_again, put_naming, put_opening};
+use crate::source::{MOST_PLACES, Source};
+use crate::writing::Output;
+use arrayvec::ArrayVec;
 use kinds::kind::Kind;
-use records::{PlaceRecord, SlotRecord, past_slot};
+use records::SlotRecord;
 use vocabulary::vocabulary::Vocabulary;
 
-// How far the writing has come: the open places, the innermost last; how many slots of each place are still to be written; which
-// places are written, and under which tag; and the tag that the next tagged place gets.
+// How far the writing has come: the slots that are still to be written of each open place, the innermost last; the tag under which
+// each place was written, and none where it was not (a place without a tag of its own has the next one, and is not met again); and
+// the tag that the next tagged place gets.
 #[derive(Drop)]
-pub struct Progress {
-    pub stack: [u16; MOST_PLACES],
-    pub depth: usize,
-    pub left: [u16; MOST_PLACES],
-    pub written: [bool; MOST_PLACES],
-    pub tag: [u16; MOST_PLACES],
-    pub next: u16,
+pub struct Progress<'a> {
+    left: ArrayVec<&'a [SlotRecord], MOST_PLACES>,
+    tags: [Option<u16>; MOST_PLACES],
+    next: u16,
 }
 
-// Opens a place that was not written.
-fn enter(progress: &mut Progress, p: u16, tagged: bool)
-    requires { (progress.old.depth < 1000) × ((p < 1000) × (progress.old.next < 60000)) }
-    ensures { progress.new ≡ entered progress.old p tagged }
-{
-    progress.stack[progress.depth] = p;
-    progress.depth += 1;
-    progress.written[p as usize] = true;
-    progress.tag[p as usize] = progress.next;
-    if tagged {
-        progress.next += 1;
+impl<'a> Progress<'a> {
+    // Nothing is written yet.
+    fn new() -> Self
+        ensures { Fresh result }
+    {
+        Progress {
+            left: ArrayVec::new(),
+            tags: [None; MOST_PLACES],
+            next: 1,
+        }
+    }
+
+    // Opens a place that was not written.
+    fn enter(&mut self, p: u16, slots: &'a [SlotRecord], tagged: bool)
+        requires { Room self.old × (p < 1000) }
+        ensures { Entered self.old p slots.now tagged self.new }
+    {
+        self.left.push(slots);
+        self.tags[p as usize] = Some(self.next);
+        if tagged {
+            self.next += 1;
+        }
+    }
+
+    // Takes the next slot of the innermost open place; where it has none left, the place ends.
+    fn next_slot(&mut self) -> Option<SlotRecord>
+        requires { (0 < array_vec_len self.old.left) × (array_vec_len self.old.left ≤ 1000) }
+        ensures { Took self.old result self.new }
+    {
+        let (slot, rest) = self.left.pop()?.split_first()?;
+        self.left.push(rest);
+        Some(*slot)
     }
 }
 
-// Opens a place that was not written, and writes it up to its first slot.
-fn open_place<K: Kind, V: Vocabulary<K>>(
-    places: &[PlaceRecord<K::Form>],
-    leading: &[u16],
-    progress: &mut Progress,
-    out: &mut [u8],
-    at: usize,
-    p: u16,
-) -> usize
-    requires within { (p < length places.now) × ((p < 1000) × ((length leading.now ≡ 1000) × (at < 2 ^ 36))) }
-    requires room { (progress.old.depth < 1000) × (progress.old.next < 60000) }
-    ensures state { progress.new ≡ entered progress.old p (marks leading.now p) }
-    ensures puts { Puts (40 ∷ ((if marks leading.now p then hashed progress.old.next (32 ∷ []) else []) ++ textBytes (V.Vocabulary.texts (loaded K.Kind.laws (kind_at (K.Kind.form K.Kind.top) places.now p))))) out.old at out.new result }
-    ensures short { result ≤ at + 40 }
-{
-    let tagged = has_tag(leading, p as usize);
-    let tag = if tagged { Some(progress.next) } else { None };
-    enter(progress, p, tagged);
-    put_opening::<K, V>(out, at, tag, places[p as usize].kind)
-}
+impl<'a, K: Kind> Source<'a, K> {
+    // Opens a place that was not written, and writes it up to its first slot.
+    fn open_place<V: Vocabulary<K>>(
+        &self,
+        progress: &mut Progress<'a>,
+        output: &mut Output<'_>,
+        p: u16,
+    )
+        requires within { p < length self.now.tables.places.now }
+        requires room { Room progress.old }
+        ensures state { Entered progress.old p (slots_of (held self.now) p) (tagged (held self.now) p) progress.new }
+        ensures adds { Adds (opened K.Kind.laws V.Vocabulary.texts (held self.now) progress.old.next p) output.old output.new }
+    {
+        let tagged = self.has_tag(p as usize);
+        let tag = tagged.then_some(progress.next);
+        progress.enter(p, self.tables.slots_of(p as usize), tagged);
+        output.put_opening::<K, V>(tag, self.tables.places[p as usize].kind);
+    }
 
-// Takes the next slot of the innermost open place; where it has none left, the place ends.
-fn next_slot<F: Copy>(
-    places: &[PlaceRecord<F>],
-    slots: &[SlotRecord],
-    progress: &mut Progress,
-) -> Option<SlotRecord>
-    requires { Ready places.now slots.now progress.old }
-    ensures { Took places.now slots.now progress.old result progress.new }
-{
-    let p = progress.stack[progress.depth - 1] as usize;
-    let left = progress.left[p];
-    if left == 0 {
-        progress.depth -= 1;
-        return None;
+    // Writes a slot: its name, and the place that it leads to.
+    fn put_slot<V: Vocabulary<K>>(
+        &self,
+        progress: &mut Progress<'a>,
+        output: &mut Output<'_>,
+        slot: SlotRecord,
+    )
+        requires within { slot.target < length self.now.tables.places.now }
+        requires named { IsName slot.name }
+        requires room { slice_index_or progress.old.tags slot.target None ≡ None → Room progress.old }
+        ensures { Visited K.Kind.laws V.Vocabulary.texts (held self.now) slot progress.old progress.new output.old output.new }
+    {
+        output.put_naming(slot.name);
+        match progress.tags[slot.target as usize] {
+            Some(tag) => output.put_again(tag),
+            None => self.open_place::<V>(progress, output, slot.target),
+        }
     }
-    progress.left[p] = left - 1;
-    Some(slots[past_slot(places, p) - left as usize])
-}
 
-// Writes a slot: its name, and the place that it leads to.
-fn put_slot<K: Kind, V: Vocabulary<K>>(
-    places: &[PlaceRecord<K::Form>],
-    leading: &[u16],
-    progress: &mut Progress,
-    out: &mut [u8],
-    at: usize,
-    slot: SlotRecord,
-) -> usize
-    requires within { (slot.target < length places.now) × ((slot.target < 1000) × ((length leading.now ≡ 1000) × ((at < 2 ^ 35) × (IsName slot.name)))) }
-    requires room { slice_index_or progress.old.written slot.target false ≡ false → (progress.old.depth < 1000) × (progress.old.next < 60000) }
-    ensures state { progress.new ≡ after_slot leading.now progress.old slot.target }
-    ensures puts { Puts (32 ∷ (spelt slot.name ++ (32 ∷ [])) ++ target_text K.Kind.laws V.Vocabulary.texts places.now leading.now progress.old slot.target) out.old at out.new result }
-    ensures short { result ≤ at + 64 }
-{
-    let end = put_naming(out, at, slot.name);
-    let target = slot.target as usize;
-    if progress.written[target] {
-        return put_again(out, end, progress.tag[target]);
+    // One turn: ends the innermost open place, or writes its next slot.
+    fn step<V: Vocabulary<K>>(&self, progress: &mut Progress<'a>, output: &mut Output<'_>)
+        requires begun { Begun K.Kind.laws V.Vocabulary.texts (held self.now) progress.old }
+        requires some { 0 < array_vec_len progress.old.left }
+        ensures since { Since K.Kind.laws V.Vocabulary.texts (held self.now) progress.old progress.new output.old output.new }
+        ensures falls { measure self.now.tables.slots.now progress.new < measure self.now.tables.slots.now progress.old }
+    {
+        match progress.next_slot() {
+            Some(slot) => self.put_slot::<V>(progress, output, slot),
+            None => output.put(b')'),
+        }
     }
-    open_place::<K, V>(places, leading, progress, out, end, slot.target)
-}
 
-// One turn: ends the innermost open place, or writes its next slot.
-fn step<K: Kind, V: Vocabulary<K>>(
-    places: &[PlaceRecord<K::Form>],
-    slots: &[SlotRecord],
-    leading: &[u16],
-    progress: &mut Progress,
-    out: &mut [u8],
-    at: usize,
-) -> usize
-    requires sheet { IsSheet places.now slots.now }
-    requires leading { Leading leading.now slots.now }
-    requires begun { Begun K.Kind.laws V.Vocabulary.texts (sheet_of K.Kind.laws places.now slots.now) progress.old }
-    requires within { (0 < progress.old.depth) × (at < 2 ^ 35) }
-    ensures { Turned K.Kind.laws V.Vocabulary.texts (sheet_of K.Kind.laws places.now slots.now) progress.old progress.new out.old at out.new result }
-{
-    match next_slot(places, slots, progress) {
-        Some(slot) => put_slot::<K, V>(places, leading, progress, out, at, slot),
-        None => put(out, at, b')'),
+    // Writes the text of the sheet from the start of the output on, so far as the output reaches, and answers how long it is.
+    pub(crate) fn write<V: Vocabulary<K>>(&self, out: &mut [u8]) -> usize
+        ensures { Wrote K.Kind.laws V.Vocabulary.texts (held self.now) out.old out.new result }
+    {
+        let mut progress = Progress::new();
+        let mut output = Output::new(out);
+        self.open_place::<V>(&mut progress, &mut output, 0);
+        while !progress.left.is_empty() {
+            self.step::<V>(&mut progress, &mut output);
+        }
+        output.len
     }
-}
-
-// Nothing is written yet.
-fn begin<F: Copy>(places: &[PlaceRecord<F>]) -> Progress
-    requires { (length places.now ≤ 1000) × (((p : ℕ) → count_at places.now p ≤ 4000)) }
-    ensures { Fresh places.now result }
-{
-    let mut left = [0; MOST_PLACES];
-    for (p, place) in places.iter().enumerate() {
-        left[p] = place.count;
-    }
-    Progress {
-        stack: [0; MOST_PLACES],
-        depth: 0,
-        left,
-        written: [false; MOST_PLACES],
-        tag: [0; MOST_PLACES],
-        next: 1,
-    }
-}
-
-// Writes the text of a sheet from the start of the output on, so far as the output reaches, and answers how long it is.
-pub(crate) fn write<K: Kind, V: Vocabulary<K>>(
-    places: &[PlaceRecord<K::Form>],
-    slots: &[SlotRecord],
-    leading: &[u16],
-    out: &mut [u8],
-) -> usize
-    requires sheet { IsSheet places.now slots.now }
-    requires leading { Leading leading.now slots.now }
-    ensures { Wrote K.Kind.laws V.Vocabulary.texts (sheet_of K.Kind.laws places.now slots.now) out.old out.new result }
-{
-    let mut progress = begin(places);
-    let mut at = open_place::<K, V>(places, leading, &mut progress, out, 0, 0);
-    while progress.depth > 0 {
-        at = step::<K, V>(places, slots, leading, &mut progress, out, at);
-    }
-    at
 }
