@@ -1,5 +1,5 @@
 -- What an add leaves, put together from its checks and from what the merge leaves.
-use Rattle.std.proofs.Common.{◌≡◌, ℕ, ◌<◌, List, take, Some, Err, Option, refl, subst, arith}
+use Rattle.std.proofs.Common.{◌≡◌, ℕ, ◌<◌, List, take, Option, subst}
 use mathlib.Core.Logic.{∥∥₁_elim}
 use native.Mathlib.Nat.{ℕ_set}
 use Rattle.kinds.specs.Laws.{KindLaws}
@@ -11,7 +11,6 @@ use Rattle.records.specs.Tables.{WellFormed}
 use Rattle.records.specs.Sheets.{Formed, blank_place, sheet_of}
 use Rattle.records.specs.Sheets as records
 use Rattle.sheets.specs.declared.sheet.Sheet as view
-use Rattle.sheets.specs.Refusals.{Answered}
 use Rattle.sheets.specs.Shown.{shown_places, shown_slots}
 use Rattle.sheets.proofs.Showing.{formed_prop}
 use Rattle.unification.specs.Merge as merge
@@ -21,28 +20,11 @@ use Rattle.asks.proofs.Adds.{add_formed}
 use Rattle.merging.specs.Core.{Merges}
 use Rattle.records.proofs.Reading.{formed_read}
 use Rattle.jobs.specs.declared.job.Job.{Job}
-use Rattle.jobs.specs.declared.fault.JobFault.{JobFault}
-use Rattle.jobs.specs.declared.fault.JobFault.TheVariants.{NoRoom, TooLarge, Clash, Sheet}
 use Rattle.jobs.specs.Contents.{OwnLinks}
-use Rattle.jobs.specs.Jobs.{place_limit, place_count, slot_count, standing_sheet, SameLoans, SameLengths}
-use Rattle.jobs.specs.Faults.{fault_number}
-use Rattle.jobs.specs.Adding.{room_checks, Ready, Stands, Unchanged, Added, ask_of, NoSheet}
-use Rattle.jobs.proofs.Answering.{not_answered}
+use Rattle.jobs.specs.Jobs.{place_limit, place_count, slot_count, standing_sheet}
+use Rattle.jobs.specs.Adding.{Ready, ask_of, NoSheet}
 
 module _ {K F : Type 0} {g : Ghosts K F} (j : Job K F g) where
-  pub same_loans : SameLoans j j
-  same_loans = record { places = refl; slots = refl; work_places = refl; work_slots = refl; links = refl; shelf_places = refl; shelf_slots = refl }
-
-  pub same_lengths : SameLengths j j
-  same_lengths = record { places = refl; slots = refl; work_places = refl; work_slots = refl; links = refl; shelf_places = refl; shelf_slots = refl }
-
-  stands_still : Stands j j
-  stands_still =
-      record { limit_places = refl; limit_slots = refl; counted_places = refl; counted_slots = refl; places = refl; slots = refl; links = refl; shelf_places = refl; shelf_slots = refl }
-
-  pub unchanged : Unchanged j j
-  unchanged = record { stands = stands_still; work_places = refl; work_slots = refl }
-
   -- the standing tables hold a sheet, and the links their own numbers
   pub standing_formed : 0 < place_limit j → WellFormed (take (place_count j) j.places.now) (take (slot_count j) j.slots.now)
   standing_formed some = ∥∥₁_elim (j.sound some) formed_prop (λ s. s.formed)
@@ -52,22 +34,6 @@ module _ {K F : Type 0} {g : Ghosts K F} (j : Job K F g) where
 
 module _ {K F : Type 0} {below : K → K → Type 0} {top : K} {form : K → F} {kind : F → Option K} (laws : KindLaws below top form kind)
     {g : Ghosts K F} (j : Job K F g) (path : List ℕ) (sheet : view.Sheet K F g) where
-  -- ---- a refusal before the merge
-
-  -- none of the checks before the clash has the clash's number
-  not_clash : Answered (room_checks j path sheet) (Some 32) → ⊥
-  not_clash a =
-      not_answered (room_checks j path sheet) 32
-      (λ e. omega arith, (λ e. omega arith, (λ e. omega arith, (λ e. omega arith, (λ e. omega arith, tt))))) a
-
-  pub refused_early : (fault : JobFault) → Answered (room_checks j path sheet) (Some (fault_number fault)) → Added laws j path sheet (Err fault) j
-  refused_early NoRoom a = unchanged j
-  refused_early TooLarge a = unchanged j
-  refused_early Clash a = absurd (not_clash a)
-  refused_early (Sheet fault) a = unchanged j
-
-  -- ---- the merge and the clash
-
   -- what the merge answers of the tables that a sheet shows, it answers of the ask
   pub asked_merge : {ps : List (PlaceRecord F)} {ss : List SlotRecord} {r o : Option Counts} (qs : List (PlaceRecord F)) (ts : List SlotRecord) → ps ≡ shown_places sheet → ss ≡ shown_slots sheet → r ≡ o
       → Merges laws (standing_sheet laws j) (chained top path (sheet_of laws ps ss)) r qs ts → Merges laws (standing_sheet laws j) (ask_of laws path sheet) o qs ts

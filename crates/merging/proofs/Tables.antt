@@ -15,7 +15,7 @@ use Rattle.joining.proofs.Owning.{own_counting}
 use Rattle.asks.specs.Asks.{chained}
 use Rattle.asks.specs.Laying.{tables}
 use Rattle.unification.specs.Merge.{IsMerge}
-use Rattle.merging.specs.Core.{OwnForms, Merges, Replaced, PlacesAfter, SlotsAfter, Within, Worked}
+use Rattle.merging.specs.Core.{OwnForms, Merges, Replaced, PlacesAfter, SlotsAfter}
 use Rattle.merging.specs.United.{UnitedPlaces, UnitedSlots, Cleared, ClearedPlaces, ClearedSlots}
 
 module _ {R : Type 0} (blank : R) (n c : ℕ) (old made new : List R) (within : c ≤ length made) (rest : drop c made ≡ drop c old) (cleared : Cleared blank n c made new) where
@@ -35,14 +35,6 @@ module _ {R : Type 0} (blank : R) (n c : ℕ) (old made new : List R) (within : 
       let far : drop (max c n) made ≡ drop (max c n) old =
       ap (λ j. drop j made) (sym e) ∙ sym (drop-drop k c made) ∙ ap (drop k) rest ∙ drop-drop k c old ∙ ap (λ j. drop j old) e in
       ap (drop c) parts ∙ drop_at (take c made) (replicate (n - c) blank ++ drop (max c n) made) c front ∙ ap (λ l. replicate (n - c) blank ++ l) far
-
--- a table of which n records were used for work, and blanked
-pub worked : {R : Type 0} (blank own : R) (n : ℕ) (old used new : List R) → own ≡ blank → drop n used ≡ drop n old
-    → new ≡ take 0 used ++ replicate (n - 0) own ++ drop (max 0 n) used → Worked blank n old new
-worked blank own n old used new e past made =
-    let zero : n - 0 ≡ n = omega arith in
-    let most : max 0 n ≡ n = omega arith in
-    made ∙ (λ i. replicate (zero i) (e i) ++ drop (most i) used) ∙ ap (λ l. replicate n blank ++ l) past
 
 -- links that hold their own numbers do so as far as they are lent,
 pub own_front : (links : List ℕ) (n : ℕ) → n ≤ length links → ((x : ℕ) → x < n → get_or links x 0 ≡ x) → Own (take n links)
@@ -69,21 +61,25 @@ laid_beside {F} any top ps ss n m path t wp ws e hn hm b =
     (subst (λ (x : ℕ). Beside (tables (take n ps) (take m ss)) (chained any path t) (tables (take (x + length path + size t) wp) (take (m + length path + width t) ws))) en
     (subst (λ (x : ℕ). Beside (tables (take n ps) (take m ss)) (chained any path t) (tables (take (length (take n ps) + length path + size t) wp) (take (x + length path + width t) ws))) em b))
 
+-- the tables after the merge was written and what is left of the standing sheet was blanked
+pub places_after : {F : Type 0} (blank : PlaceRecord F) (n : ℕ) (ps ps₁ ps₂ : List (PlaceRecord F)) (r : Option Counts) (a : ℕ) → a ≤ length ps₁ → UnitedPlaces a r ps ps₁ → ClearedPlaces blank n r ps₁ ps₂ → PlacesAfter blank n r ps ps₂
+places_after blank n ps ps₁ ps₂ (Some c) a la up cp = cleared_rest blank n c.places ps ps₁ ps₂ (omega (arith, up.most)) up.rest cp
+places_after blank n ps ps₁ ps₂ None a la up cp = cp ∙ up
+
+pub slots_after : (m : ℕ) (ss ss₁ ss₂ : List SlotRecord) (r : Option Counts) (b : ℕ) → b ≤ length ss₁ → UnitedSlots b r ss ss₁ → ClearedSlots m r ss₁ ss₂ → SlotsAfter m r ss ss₂
+slots_after m ss ss₁ ss₂ (Some c) b lb us cs = cleared_rest blank_slot m c.slots ss ss₁ ss₂ (omega (arith, us.most)) us.rest cs
+slots_after m ss ss₁ ss₂ None b lb us cs = cs ∙ us
+
 module _ {K F : Type 0} {below : K → K → Type 0} {top : K} {form : K → F} {kind : F → Option K} (laws : KindLaws below top form kind)
     (s t : Sheet K) (n m : ℕ) (ps ps₁ ps₂ : List (PlaceRecord F)) (ss ss₁ ss₂ : List SlotRecord) where
   pub merged_holds : (r : Option Counts) (a b : ℕ) → a ≤ length ps₁ → b ≤ length ss₁ → Merges laws s t r ps₁ ss₁ → UnitedPlaces a r ps ps₁ → UnitedSlots b r ss ss₁
-      → ClearedPlaces (blank_place laws) n r ps₁ ps₂ → ClearedSlots m r ss₁ ss₂
-      → Merges laws s t r ps₂ ss₂ × PlacesAfter (blank_place laws) n r ps ps₂ × SlotsAfter m r ss ss₂ × Within a b r
+      → ClearedPlaces (blank_place laws) n r ps₁ ps₂ → ClearedSlots m r ss₁ ss₂ → Merges laws s t r ps₂ ss₂
   merged_holds (Some c) a b la lb held up us cp cs =
       let at_places = cleared_take (blank_place laws) n c.places ps ps₁ ps₂ (omega (arith, up.most)) up.rest cp in
-      let at_slots = cleared_take blank_slot m c.slots ss ss₁ ss₂ (omega (arith, us.most)) us.rest cs in (
-        record {
-          formed = subst (λ (l : List (PlaceRecord F)). WellFormed l (take c.slots ss₂)) (sym at_places) (subst (λ (l : List SlotRecord). WellFormed (take c.places ps₁) l) (sym at_slots) held.formed);
-          merge = subst (λ (u : Sheet K). IsMerge laws s t u) (sym (λ i. sheet_of laws (at_places i) (at_slots i))) held.merge;
-          own = subst (λ (l : List (PlaceRecord F)). OwnForms laws l) (sym at_places) held.own;
-        },
-        cleared_rest (blank_place laws) n c.places ps ps₁ ps₂ (omega (arith, up.most)) up.rest cp,
-        cleared_rest blank_slot m c.slots ss ss₁ ss₂ (omega (arith, us.most)) us.rest cs,
-        (up.most, us.most),
-      )
-  merged_holds None a b la lb clash up us cp cs = (clash, cp ∙ up, cs ∙ us, tt)
+      let at_slots = cleared_take blank_slot m c.slots ss ss₁ ss₂ (omega (arith, us.most)) us.rest cs in
+      record {
+        formed = subst (λ (l : List (PlaceRecord F)). WellFormed l (take c.slots ss₂)) (sym at_places) (subst (λ (l : List SlotRecord). WellFormed (take c.places ps₁) l) (sym at_slots) held.formed);
+        merge = subst (λ (u : Sheet K). IsMerge laws s t u) (sym (λ i. sheet_of laws (at_places i) (at_slots i))) held.merge;
+        own = subst (λ (l : List (PlaceRecord F)). OwnForms laws l) (sym at_places) held.own;
+      }
+  merged_holds None a b la lb clash up us cp cs = clash

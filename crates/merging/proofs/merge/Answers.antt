@@ -1,12 +1,11 @@
-use Rattle.std.proofs.Common.{◌≡◌, ℕ, ◌+◌, List, ◌++◌, length, take, drop, ap, ◌∙◌, subst, arith, length-take, drop_at}
-use Rattle.records.specs.Tables.{blank_slot}
+use Rattle.std.proofs.Common.{ℕ, ◌+◌, List, length, take, ap, ◌∙◌, subst, arith, length-take}
 use Rattle.records.specs.Sheets.{Sheet, blank_place, sheet_of}
 use Rattle.joining.specs.Two.{Two}
 use Rattle.asks.specs.Asks.{chained}
 use Rattle.asks.proofs.Adds.{add_formed}
 use Rattle.asks.proofs.Reading.{add_read}
-use Rattle.merging.specs.Core.{Merges, Within}
-use Rattle.merging.proofs.Tables.{merged_holds, worked, own_front, links_back, laid_beside}
+use Rattle.merging.specs.Core.{Merges}
+use Rattle.merging.proofs.Tables.{merged_holds, places_after, slots_after, own_front, links_back, laid_beside}
 use Rattle.merging.proofs.merge.Goals as goal
 
 pub unite-made-requires : goal.unite-made-requires
@@ -34,8 +33,8 @@ unite-made-requires g c =
       output = (simp length-take (omega arith), simp length-take (omega arith));
     }
 
-pub returns : goal.returns
-returns g c =
+pub returns-clause-answer : goal.returns-clause-answer
+returns-clause-answer g c =
     let laws = g.K.Kind.laws in
     let any = g.K.Kind.form g.K.Kind.top in
     let path : List ℕ = c.args.path.now in
@@ -60,33 +59,27 @@ returns g c =
     let united : Merges laws (sheet_of laws standing.places standing.slots) (chained g.K.Kind.top path (sheet_of laws asked.places asked.slots)) c.unite-made.result c.unite-made.new.places c.unite-made.new.slots =
     subst (λ (t : Sheet g.row.K.Denot). Merges laws (sheet_of laws standing.places standing.slots) t c.unite-made.result c.unite-made.new.places c.unite-made.new.slots)
     (add_read laws path asked) (c.unite-made.ensures.answer two) in
-    let held =
     merged_holds laws (sheet_of laws standing.places standing.slots) (chained g.K.Kind.top path (sheet_of laws asked.places asked.slots))
     c.args.standing.places c.args.standing.slots c.args.places.now c.unite-made.new.places c.blank_past.new.places
     c.args.slots.now c.unite-made.new.slots c.blank_past.new.slots c.unite-made.result
     (length (take n c.lay_beside.new.work_places)) (length (take m c.lay_beside.new.work_slots))
     (simp length-take (omega arith)) (simp length-take (omega arith))
-    united c.unite-made.ensures.places c.unite-made.ensures.slots c.blank_past.ensures.places c.blank_past.ensures.slots in
-    let all_places : length (take n c.lay_beside.new.work_places) ≡ n = simp length-take (omega arith) in
-    let all_slots : length (take m c.lay_beside.new.work_slots) ≡ m = simp length-take (omega arith) in
-    let front : length c.unite-made.new.work_places ≡ n = c.unite-made.auto.work_places ∙ simp length-take (omega arith) in
-    let past_places : drop n c.lay_beside.new.work_places ≡ drop n c.args.work_places.now =
-    subst (λ (x : ℕ). drop (x + length path + length c.args.asked.places.now) c.lay_beside.new.work_places ≡ drop (x + length path + length c.args.asked.places.now) c.args.work_places.now)
-    two.from c.lay_beside.ensures.places_past in
-    let wide : length (take c.args.standing.slots c.args.slots.now) ≡ c.args.standing.slots = simp length-take (omega arith) in
-    let past_slots : drop m c.lay_beside.new.work_slots ≡ drop m c.args.work_slots.now =
-    subst (λ (x : ℕ). drop (x + length path + length c.args.asked.slots.now) c.lay_beside.new.work_slots ≡ drop (x + length path + length c.args.asked.slots.now) c.args.work_slots.now)
-    wide c.lay_beside.ensures.slots_past in
-    record {
-      answer = held.0;
-      within = subst (λ (x : ℕ). Within x m c.unite-made.result) all_places (subst (λ (x : ℕ). Within (length (take n c.lay_beside.new.work_places)) x c.unite-made.result) all_slots held.3);
-      places = held.1;
-      slots = held.2;
-      work_places =
-          worked (blank_place laws) c.no_place.result n c.args.work_places.now (c.unite-made.new.work_places ++ drop n c.lay_beside.new.work_places) c.blank_from.new.records
-          c.no_place.ensures (drop_at c.unite-made.new.work_places (drop n c.lay_beside.new.work_places) n front ∙ past_places) c.blank_from.ensures;
-      work_slots =
-          worked blank_slot c.no_slot.result m c.args.work_slots.now c.lay_beside.new.work_slots c.blank_from-2.new.records
-          c.no_slot.ensures past_slots c.blank_from-2.ensures;
-      links = links_back c.args.links.now c.unite-made.new.links n c.requires.places.1.1.0 c.requires.own c.unite-made.ensures.links;
-    }
+    united c.unite-made.ensures.places c.unite-made.ensures.slots c.blank_past.ensures.places c.blank_past.ensures.slots
+
+pub returns-clause-places : goal.returns-clause-places
+returns-clause-places g c =
+    let lp = c.lay_beside.ensures.places_length in
+    places_after (blank_place g.K.Kind.laws) c.args.standing.places c.args.places.now c.unite-made.new.places c.blank_past.new.places c.unite-made.result
+    (length (take (c.args.standing.places + length c.args.path.now + length c.args.asked.places.now) c.lay_beside.new.work_places)) (simp length-take (omega arith))
+    c.unite-made.ensures.places c.blank_past.ensures.places
+
+pub returns-clause-slots : goal.returns-clause-slots
+returns-clause-slots g c =
+    let ls = c.lay_beside.ensures.slots_length in
+    slots_after c.args.standing.slots c.args.slots.now c.unite-made.new.slots c.blank_past.new.slots c.unite-made.result
+    (length (take (c.args.standing.slots + length c.args.path.now + length c.args.asked.slots.now) c.lay_beside.new.work_slots)) (simp length-take (omega arith))
+    c.unite-made.ensures.slots c.blank_past.ensures.slots
+
+pub returns-clause-links : goal.returns-clause-links
+returns-clause-links g c =
+    links_back c.args.links.now c.unite-made.new.links (c.args.standing.places + length c.args.path.now + length c.args.asked.places.now) c.requires.places.1.1.0 c.requires.own c.unite-made.ensures.links

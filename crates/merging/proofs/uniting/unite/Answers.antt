@@ -1,5 +1,4 @@
-use Rattle.std.proofs.Common.{◌≡◌, ℕ, ◌<◌, ◌≤◌, length, get_or, take, refl, sym, ap, ◌∙◌, subst, arith}
-use Rattle.std.specs.List.{range_with_len}
+use Rattle.std.proofs.Common.{◌≡◌, ℕ, ◌<◌, ◌≤◌, length, get_or, take, refl, sym, subst, arith}
 use Rattle.joining.specs.Forest.{end}
 use Rattle.records.specs.Sheets.{Sheet, size}
 use Rattle.merging.proofs.Classing.{end_classes, classes_ready, classes_shaped, kept_alike, classes_clash, classes_merge, classes_own}

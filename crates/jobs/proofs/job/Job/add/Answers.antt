@@ -1,4 +1,4 @@
-use Rattle.std.proofs.Common.{◌≡◌, ℕ, ◌+◌, ◌≤◌, length, get_or, Some, None, Err, Option, Result, ok_or, sym, refl, ap, ◌∙◌, subst, arith, rules}
+use Rattle.std.proofs.Common.{◌≡◌, ℕ, length, get_or, None, Err, Option, Result, ok_or, sym, refl, ap, ◌∙◌, subst, arith}
 use Rattle.std.proofs.lemmas.Result.{err_from_is_err_and}
 use Rattle.records.specs.declared.Counts.{Counts}
 use Rattle.records.specs.Tables.{blank_slot}
@@ -9,10 +9,10 @@ use Rattle.jobs.specs.declared.fault.JobFault.{JobFault}
 use Rattle.jobs.specs.declared.fault.JobFault.TheVariants.{Clash}
 use Rattle.jobs.specs.Faults.{fault_number}
 use Rattle.jobs.specs.Jobs.{standing_sheet}
-use Rattle.jobs.specs.Adding.{Ready, add_checks, room_checks, Added, ask_of, NoSheet}
+use Rattle.jobs.specs.Adding.{Ready, add_checks, room_checks, ask_of, NoSheet}
 use Rattle.merging.specs.Core.{PlacesAfter, SlotsAfter}
-use Rattle.jobs.proofs.Answering.{still_refused, last_refuses, none_refuses}
-use Rattle.jobs.proofs.Added.{same_loans, same_lengths, unchanged, standing_formed, standing_links, refused_early, asked_merge, no_clash, some_sheet, no_sheet}
+use Rattle.jobs.proofs.Answering.{last_refuses, none_refuses}
+use Rattle.jobs.proofs.Added.{standing_formed, standing_links, asked_merge, no_clash, some_sheet, no_sheet}
 use Rattle.jobs.proofs.Blanks.{worked_same, worked_blank, replaced_blank}
 use Rattle.jobs.proofs.job.Job.add.Goals as goal
 

@@ -1,4 +1,4 @@
-use Rattle.std.proofs.Common.{◌≡◌, ◌<◌, ◌++◌, min, length, drop, ap, ◌∙◌, arith, rules}
+use Rattle.std.proofs.Common.{◌≡◌, ◌<◌, ◌++◌, min, drop, ap, ◌∙◌, arith}
 use Rattle.records.specs.Tables.{blank_slot}
 use Rattle.records.specs.Sheets.{blank_place}
 use Rattle.jobs.specs.Contents.{filled, numbered}
