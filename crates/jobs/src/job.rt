@@ -8,11 +8,7 @@ use records::{Counts, PlaceRecord, SlotRecord};
 pub mod adding;
 pub mod opening;
 
-// The most records of a table that count, however long it is: of the standing and the work tables, and of the shelf.
-const MOST_PLACES: usize = 1000;
-
-const MOST_SLOTS: usize = 4000;
-
+// The most records of the shelf that count, however long its tables are.
 const MOST_SHELF_PLACES: usize = 8000;
 
 const MOST_SHELF_SLOTS: usize = 32000;

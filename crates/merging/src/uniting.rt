@@ -9,8 +9,8 @@ ghost use Rattle.merging.specs.United.{United, UnitedPlaces, UnitedSlots};
 use joining::{Links, end_of, join_roots};
 use kinds::kind::Kind;
 use meets::meet_classes;
-use numbering::{LIMIT, number};
-use records::{Counts, PlaceRecord, SlotRecord, Tables};
+use numbering::number;
+use records::{Counts, MOST_PLACES, PlaceRecord, SlotRecord, Tables};
 
 // Writes the end of each place.
 fn flatten(links: &[u16], ends: &mut [u16])
@@ -48,7 +48,7 @@ pub(crate) fn unite<K: Kind>(
         slots: work_slots,
     };
     join_roots(sides, guard.0, second);
-    let mut ends = [0u16; LIMIT];
+    let mut ends = [0u16; MOST_PLACES];
     flatten(guard.0, &mut ends);
     meet_classes::<K>(work_places, &ends).ok()?;
     let merged = Tables {

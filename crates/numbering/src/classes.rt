@@ -3,8 +3,7 @@ ghost use Rattle.std.specs.Prelude.{◌≡◌, ◌≤◌, length};
 ghost use Rattle.numbering.specs.Quotient.{Graph, at};
 ghost use Rattle.numbering.specs.Classes.{Listed};
 
-use crate::LIMIT;
-use records::Tables;
+use records::{MOST_PLACES, Tables};
 
 // The graph of the places, and which class each is of: `ends[x]` stands for the class of `x`. By class its last place, and by place
 // the one before it of its class.
@@ -13,8 +12,8 @@ pub(crate) struct Classes<'a, F> {
     pub(crate) tables: Tables<'a, F>,
     pub(crate) ends: &'a [u16],
     // There is no heap here, so the lists are links in two arrays of fixed size.
-    pub(crate) last: [Option<u16>; LIMIT],
-    pub(crate) previous: [Option<u16>; LIMIT],
+    pub(crate) last: [Option<u16>; MOST_PLACES],
+    pub(crate) previous: [Option<u16>; MOST_PLACES],
     ghost graph: { Graph tables.places.now tables.slots.now (at ends.now) },
     ghost size: { (length tables.places.now ≤ length ends.now) × ((length tables.places.now ≤ 1000) × (length tables.slots.now ≤ 65535)) },
     ghost listed: { Listed (at ends.now) (length tables.places.now) (length tables.places.now) last previous },
@@ -27,8 +26,8 @@ impl<'a, F: Copy> Classes<'a, F> {
         ensures tables { (result.tables.places.now ≡ tables.entry.places.now) × (result.tables.slots.now ≡ tables.entry.slots.now) }
         ensures ends { result.ends.now ≡ ends.now }
     {
-        let mut last = [None; LIMIT];
-        let mut previous = [None; LIMIT];
+        let mut last = [None; MOST_PLACES];
+        let mut previous = [None; MOST_PLACES];
         for (x, end) in ends[..tables.places.len()].iter().enumerate() {
             let v = *end as usize;
             previous[x] = last[v];

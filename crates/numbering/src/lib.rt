@@ -17,9 +17,6 @@ ghost use Rattle.numbering.specs.Sides.{Assembled, Ready};
 use classes::Classes;
 use records::{Counts, PlaceRecord, SlotRecord, Tables};
 
-// The most places that are numbered at once.
-pub const LIMIT: usize = 1000;
-
 // Writes the sheet of the classes, and answers how many places and slots it has. `ends[x]` is a place of the class of `x`, the same
 // for the whole class, and the class gets the kind that stands there.
 pub fn number<F: Copy>(

@@ -4,14 +4,14 @@ ghost use Rattle.std.specs.List.{slice_get};
 ghost use Rattle.numbering.specs.Numbers.{Known, Only};
 ghost use Rattle.numbering.specs.Writing.{Extended};
 
-use crate::LIMIT;
 use arrayvec::ArrayVec;
+use records::MOST_PLACES;
 
 // The ends of the numbered classes by number, and the number of each by its end.
 #[derive(Drop)]
 pub(crate) struct Numbers {
-    pub(crate) order: ArrayVec<u16, LIMIT>,
-    pub(crate) number: [Option<u16>; LIMIT],
+    pub(crate) order: ArrayVec<u16, MOST_PLACES>,
+    pub(crate) number: [Option<u16>; MOST_PLACES],
     ghost known: { Known order.items number },
     ghost only: { Only order.items number },
 }
@@ -24,7 +24,7 @@ impl Numbers {
     {
         let mut order = ArrayVec::new();
         order.push(v);
-        let mut number = [None; LIMIT];
+        let mut number = [None; MOST_PLACES];
         number[v as usize] = Some(0);
         Numbers { order, number }
     }

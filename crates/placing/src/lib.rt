@@ -4,8 +4,3 @@
 mod arranging;
 mod blanking;
 pub mod place;
-
-// The most places, and the most slots, of a sheet.
-const MOST_PLACES: usize = 1000;
-
-const MOST_SLOTS: usize = 4000;

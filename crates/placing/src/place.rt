@@ -8,12 +8,11 @@ ghost use Rattle.placing.specs.Reading.{ReadAs, ReadInto, SheetRead, blank_draft
 
 use crate::arranging::arrange;
 use crate::blanking::blank_past;
-use crate::{MOST_PLACES, MOST_SLOTS};
 use kinds::kind::Kind;
 use reading::draft::{Place, Slot, Target};
 use reading::drafting::read_draft;
 use reading::fault::ReadFault;
-use records::{Counts, PlaceRecord, SlotRecord, no_place, no_slot};
+use records::{Counts, MOST_PLACES, MOST_SLOTS, PlaceRecord, SlotRecord, no_place, no_slot};
 use renumbering::renumber;
 use vocabulary::vocabulary::Vocabulary;
 

@@ -4,10 +4,10 @@ ghost use Rattle.reading.specs.Answers.{came, WithinOk};
 ghost use Rattle.reading.specs.Steps.{read_place};
 
 use crate::draft::{Cursor, Place, Slot};
-use crate::drafting::lookup::{MOST_PLACES, MOST_SLOTS};
 use crate::drafting::reader::DraftReader;
 use crate::fault::ReadFault;
 use kinds::kind::Kind;
+use records::{MOST_PLACES, MOST_SLOTS};
 use tokens::token::{checked_length, next_token};
 use vocabulary::vocabulary::Vocabulary;
 

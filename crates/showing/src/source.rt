@@ -6,10 +6,7 @@ ghost use Rattle.sheets.specs.Checks.{IsSheet};
 ghost use Rattle.showing.specs.Tags.{led};
 
 use kinds::kind::Kind;
-use records::{SlotRecord, Tables};
-
-// The most places of a sheet.
-pub(crate) const MOST_PLACES: usize = 1000;
+use records::{MOST_PLACES, SlotRecord, Tables};
 
 // The tables hold a sheet, and `leading` says how many of its slots lead to each place.
 #[derive(Drop)]

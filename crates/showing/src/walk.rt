@@ -7,11 +7,11 @@ ghost use Rattle.showing.specs.Source.{held};
 ghost use Rattle.showing.specs.Writing.{Adds};
 ghost use Rattle.showing.specs.Progress.{Begun, Entered, Fresh, Room, Since, Took, Visited, Wrote, measure, opened};
 
-use crate::source::{MOST_PLACES, Source};
+use crate::source::Source;
 use crate::writing::Output;
 use arrayvec::ArrayVec;
 use kinds::kind::Kind;
-use records::SlotRecord;
+use records::{MOST_PLACES, SlotRecord};
 use vocabulary::vocabulary::Vocabulary;
 
 // How far the writing has come: the slots that are still to be written of each open place, the innermost last; the tag under which

@@ -3,10 +3,10 @@ ghost use Rattle.std.specs.Prelude.{◌≡◌, ◌<◌, min};
 ghost use Rattle.records.specs.Sheets.{blank_sheet};
 ghost use Rattle.jobs.specs.Jobs.{place_room, slot_room, shelf_place_room, shelf_slot_room, place_limit, slot_limit, place_count, slot_count, standing_sheet, Opened, Tidy, SameLoans, SameLengths};
 
-use super::{Job, MOST_PLACES, MOST_SHELF_PLACES, MOST_SHELF_SLOTS, MOST_SLOTS, State};
+use super::{Job, MOST_SHELF_PLACES, MOST_SHELF_SLOTS, State};
 use asks::blank_from;
 use kinds::kind::Kind;
-use records::{Counts, no_place, no_slot, own_numbers};
+use records::{Counts, MOST_PLACES, MOST_SLOTS, no_place, no_slot, own_numbers};
 
 // The counts of no places and no slots.
 const NOTHING: Counts = Counts {

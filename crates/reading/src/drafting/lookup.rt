@@ -4,12 +4,7 @@ ghost use Rattle.reading.specs.Drafts.{named};
 ghost use Rattle.reading.specs.Lookups.{Listed, owner_at, marked, Small, marked_at, unmarked_at, unmarked, Fresh};
 
 use crate::draft::{Slot, Tag, Target};
-
-// The most places of a draft.
-pub(crate) const MOST_PLACES: usize = 1_000;
-
-// The most slots of a draft.
-pub(crate) const MOST_SLOTS: usize = 4_000;
+use records::{MOST_PLACES, MOST_SLOTS};
 
 // By number whether a tag is described; by place its newest slot, and by slot the one before it of the same place. Lists through
 // indices in fixed arrays: the library has no heap.
