@@ -21,7 +21,8 @@ pub struct Lines<'a> {
     ghost fits: { IfOk len (λ n. (n ≤ length buffer.now) × (n ≤ 60000)) } by { Prim.hlevel props },
 }
 
-// What a piece of input did: how many of its bytes were read, and whether the line ended with the last of them.
+// What a piece of input did: how many of its bytes were read, and whether the line ended with the last of them. Both are told
+// of every piece, so neither is an `Option`: the caller goes on by `used` whether or not the line ended.
 #[derive(Clone, Copy)]
 pub struct Fed {
     pub used: usize,
