@@ -1,6 +1,7 @@
 // Joining places until no more follows. Links hold which places are joined: each place links to one that is not later, and two
 // places are joined where their links lead to one end. (The field says union-find, and coreference closure.)
-// To read in this order: links (ends, one join), sides (the two tables), rings (the places of a class), closing (the loop), roots (two sheets), guard.
+// To read in this order: links (ends, one join), sides (the two tables), rings (the places of a class), closing (the loop), roots
+// (two sheets), guard.
 #![tactic(auto)]
 
 mod closing;
