@@ -12,7 +12,8 @@ use kinds::kind::Kind;
 use tokens::token::{Lexeme, Token, next_token};
 use vocabulary::vocabulary::Vocabulary;
 
-// The number that stands next on the line from `from` on, and the place after it.
+// The number that stands next on the line from `from` on, and the place after it. (The two functions below are alike but for the
+// token and what they give of it: one for all three would take a closure, and is longer.)
 fn number_ahead(line: &[u8], from: usize) -> Option<(i32, usize)>
     ensures { (rest : ℤ → ℕ → Bool) → on_some result (λ x. rest x.0 x.1) false ≡ on_next (next_token line.now from) false (λ x i j. on_number x (λ n. rest n j) false) (λ n b. false) }
 {
