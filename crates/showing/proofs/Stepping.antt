@@ -30,8 +30,7 @@ pub is_sheet : {K F : Type 0} {kind : Ghosts K F} (source : Source K F kind) →
 is_sheet {K} {F} {kind} source =
     let rooted : 0 < length source.tables.places.now = ∥∥₁_elim source.sheet le_prop (λ x. x.formed.rooted) in
     let view : View K F kind = record {
-      places = source.tables.places;
-      slots = source.tables.slots;
+      tables = source.tables;
       limits = (∥∥₁_elim source.sheet le_prop (λ x. x.few_places), ∥∥₁_elim source.sheet le_prop (λ x. x.few_slots));
       shown = λ h. source.sheet;
       nothing = λ none. absurd (omega arith);
