@@ -1,5 +1,5 @@
 -- The catalogue: the sixteen kinds with word and code, their order, and what two of them have in common.
-use Rattle.std.specs.Prelude.{◌≡◌, ℕ, cond, List, [], ◌∷◌, Some, None, codes, Option, ◌==◌, bit_and, nat_lt, slice_index_or}
+use Rattle.std.specs.Prelude.{◌≡◌, ℕ, cond, List, [], ◌∷◌, Some, None, codes, Option, ◌==◌, bit_and, nat_lt, slice_get, slice_index_or}
 use Rattle.kinds.specs.declared.catalogue.Catalogue.{Catalogue}
 use Rattle.kinds.specs.declared.catalogue.Catalogue.TheVariants.{Thing, Ware, Electrical, Mover, Striking, Outdoor, OutdoorMover, OutdoorStriker, SwingMotor, InsideStriker, OutsideStriker, ChimeHammer, Controller, Bell, Headstock, Tune}
 
@@ -86,6 +86,6 @@ coded n (k ∷ ks) = cond (code k == n) (Some k) (coded n ks)
 abbrev pub shared : Catalogue → Catalogue → Option Catalogue
 shared a b = coded (bit_and (code a) (code b)) listed
 
--- the meet of each two kinds stands in the row of the first and the column of the second
+-- the meet of each two kinds stands in the row of the first and the column of the second, which are there
 pub record MeetTable (table : List (List (Option Catalogue))) : Type 0 where
-  pub right : (a b : Catalogue) → slice_index_or (slice_index_or table (index a) []) (index b) None ≡ shared a b
+  pub right : (a b : Catalogue) → slice_get (slice_index_or table (index a) []) (index b) ≡ Some (shared a b)
