@@ -8,10 +8,8 @@ ghost use Rattle.joining.specs.Rings.{Rings, Whole};
 use crate::links::join;
 use crate::rings::put;
 use crate::sides::Sides;
+use records::MOST_PLACES;
 use std::cmp::Ordering;
-
-// The most places that are joined at one time.
-pub const PLACES: usize = 1000;
 
 // What came of two places: whether anything was joined, and whether the second has every name that the first has. (Each may hold
 // without the other.)
@@ -103,7 +101,7 @@ pub(crate) fn close<F: Copy>(sides: &Sides<'_, F>, links: &mut [u16])
     ensures least { (x y : ℕ) → Same links.new x y ↔ Closure (Edge sides.now.tables.places.now sides.now.tables.slots.now) (Same links.old) x y }
 {
     // The library has no heap: the ring is fixed memory.
-    let mut ring = [0u16; PLACES];
+    let mut ring = [0u16; MOST_PLACES];
     while pass(sides, links, &mut ring) {}
 }
 

@@ -12,7 +12,7 @@ use kinds::kind::Kind;
 use reading::draft::{Place, Slot, Target};
 use reading::drafting::read_draft;
 use reading::fault::ReadFault;
-use records::{Counts, MOST_PLACES, MOST_SLOTS, PlaceRecord, SlotRecord, no_place, no_slot};
+use records::{Counts, MOST_PLACES, MOST_SLOTS, PlaceRecord, SlotRecord, Tables, no_place, no_slot};
 use renumbering::renumber;
 use vocabulary::vocabulary::Vocabulary;
 
@@ -43,7 +43,11 @@ fn write_sheet<K: Kind>(
         &mut work_places[..n],
         &mut work_slots[..m],
     );
-    renumber(&work_places[..n], &work_slots[..m], places, slots).unwrap()
+    let draft = Tables {
+        places: &work_places[..n],
+        slots: &work_slots[..m],
+    };
+    renumber(draft, places, slots).unwrap()
 }
 
 // Reads a line, with tables for its draft: they say how many places and slots it may have.
