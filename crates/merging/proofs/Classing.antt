@@ -3,6 +3,8 @@
 use Rattle.std.proofs.Common.{◌≡◌, ℕ, ◌+◌, ◌-◌, ◌<◌, ◌≤◌, List, length, get_or, Option, sym, ap, ◌∙◌, subst, arith}
 use native.Mathlib.Decide.{dec_lt}
 use Rattle.kinds.specs.Laws.{KindLaws, loaded}
+use Rattle.records.specs.declared.PlaceRecord.{PlaceRecord}
+use Rattle.records.specs.declared.SlotRecord.{SlotRecord}
 use Rattle.records.specs.Tables.{kind_at}
 use Rattle.records.specs.Sheets.{Sheet, size, Formed, kind_of}
 use Rattle.records.specs.Beside.{Joined, Beside}
@@ -10,7 +12,7 @@ use Rattle.records.proofs.Reading.{readings, same_size, kind_read, slot_read, re
 use Rattle.unification.specs.Merge.{Under, IsMerge, Clash, Made}
 use Rattle.unification.proofs.Making.{enough}
 use Rattle.joining.specs.Forest.{Forest, end}
-use Rattle.joining.specs.Two.{EndsJoined}
+use Rattle.joining.specs.Two.{Two, EndsJoined}
 use Rattle.joining.proofs.Forests.{end_le, end_ends, end_stays}
 use Rattle.numbering.specs.Quotient.{Work, Quotient}
 use Rattle.numbering.specs.Sides.{Alike, Shaped}
@@ -18,30 +20,51 @@ use Rattle.numbering.specs.Sides as numbering
 use Rattle.numbering.proofs.Sides.{stands, ready, assembled}
 use Rattle.meets.specs.Classes.{Classes, Kept, Met, NoMeet, kind_held}
 
-module _ {F : Type 0} (s t w : Sheet F) (fs : Formed s) (ft : Formed t) (b : Beside s t w) (links ends : List ℕ) (forest : Forest links)
-    (room : size w ≤ length ends) (flat : (x : ℕ) → x < size w → get_or ends x 0 ≡ end links x) (joined : EndsJoined s t links) where
+-- s and t side by side in w, with links that join their places, and the end of each place
+pub record Linked {F : Type 0} (s t w : Sheet F) (links ends : List ℕ) : Type 0 where
+  pub formed_s : Formed s
+  pub formed_t : Formed t
+  pub beside : Beside s t w
+  pub forest : Forest links
+  pub room : size w ≤ length ends
+  pub flat : (x : ℕ) → x < size w → get_or ends x 0 ≡ end links x
+  pub joined : EndsJoined s t links
+
+pub linked_of : {F : Type 0} (ps : List (PlaceRecord F)) (ss : List SlotRecord) (links ends : List ℕ) {second : ℕ} (two : Two ps ss second) → Forest links → length ps ≤ length ends → length links ≡ length ps
+    → ((x : ℕ) → x < length links → get_or ends x 0 ≡ end links x) → EndsJoined two.s two.t links → Linked two.s two.t (record { places = ps; slots = ss }) links ends
+linked_of ps ss links ends two forest room long flat joined = record {
+  formed_s = two.formed_s;
+  formed_t = two.formed_t;
+  beside = two.beside;
+  forest = forest;
+  room = room;
+  flat = λ x h. flat x (omega arith);
+  joined = joined;
+}
+
+module _ {F : Type 0} (s t w : Sheet F) (links ends : List ℕ) (linked : Linked s t w links ends) where
   -- the end of a place stands for its class
   pub end_classes : Classes ends (size w)
   end_classes =
       record {
-        listed = room;
-        earlier = λ x h. omega (arith, flat x h, end_le links forest x);
+        listed = linked.room;
+        earlier = λ x h. omega (arith, linked.flat x h, end_le links linked.forest x);
         settled = λ x h.
-            let e = flat x h in
-            let l = end_le links forest x in
-            ap (λ n. get_or ends n 0) e ∙ flat (end links x) (omega arith) ∙ end_stays links forest (end links x) (end_ends links forest x) ∙ sym e;
+            let e = linked.flat x h in
+            let l = end_le links linked.forest x in
+            ap (λ n. get_or ends n 0) e ∙ linked.flat (end links x) (omega arith) ∙ end_stays links linked.forest (end links x) (end_ends links linked.forest x) ∙ sym e;
       }
 
   pub class_joined : (x y : ℕ) → x < size w → y < size w → get_or ends x 0 ≡ get_or ends y 0 → Joined s t x y
-  class_joined x y h k e = (joined x y).0 (sym (flat x h) ∙ e ∙ flat y k)
+  class_joined x y h k e = (linked.joined x y).0 (sym (linked.flat x h) ∙ e ∙ linked.flat y k)
 
   pub joined_class : (x y : ℕ) → x < size w → y < size w → Joined s t x y → get_or ends x 0 ≡ get_or ends y 0
-  joined_class x y h k j = flat x h ∙ (joined x y).1 j ∙ sym (flat y k)
+  joined_class x y h k j = linked.flat x h ∙ (linked.joined x y).1 j ∙ sym (linked.flat y k)
 
   -- the classes are those of joined places
   pub numbered_classes : numbering.Classes s t (λ x. get_or ends x 0)
   numbered_classes =
-      let n = b.places in
+      let n = linked.beside.places in
       record {
         inside = λ x h. omega (arith, end_classes.earlier x (omega arith));
         member = λ x h.
@@ -54,11 +77,11 @@ module _ {F : Type 0} (s t w : Sheet F) (fs : Formed s) (ft : Formed t) (b : Bes
   module _ (v : Sheet F) (a : Alike w v) where
     -- so they can be numbered,
     pub classes_ready : Work v.places v.slots (λ x. get_or ends x 0)
-    classes_ready = ready s t v fs ft (stands s t w v b a) (λ x. get_or ends x 0) numbered_classes
+    classes_ready = ready s t v linked.formed_s linked.formed_t (stands s t w v linked.beside a) (λ x. get_or ends x 0) numbered_classes
 
     -- and numbered they are the merge, but for the kinds
     pub classes_shaped : (m : Sheet F) → Quotient v.places v.slots (λ x. get_or ends x 0) m.places m.slots → Shaped s t v (λ x. get_or ends x 0) m
-    classes_shaped m q = assembled s t v fs ft (stands s t w v b a) (λ x. get_or ends x 0) numbered_classes m q
+    classes_shaped m q = assembled s t v linked.formed_s linked.formed_t (stands s t w v linked.beside a) (λ x. get_or ends x 0) numbered_classes m q
 
 -- v is w after the kinds of classes were met
 pub kept_alike : {F : Type 0} (w v : Sheet F) (ends : List ℕ) → Kept ends w.places v.places → v.slots ≡ w.slots → Alike w v
@@ -71,8 +94,7 @@ kept_alike w v ends k e =
     }
 
 module _ {K F : Type 0} {below : K → K → Type 0} {top : K} {form : K → F} {kind : F → Option K} (laws : KindLaws below top form kind)
-    (s t w : Sheet F) (fs : Formed s) (ft : Formed t) (b : Beside s t w) (links ends : List ℕ) (forest : Forest links)
-    (room : size w ≤ length ends) (flat : (x : ℕ) → x < size w → get_or ends x 0 ≡ end links x) (joined : EndsJoined s t links) where
+    (s t w : Sheet F) (links ends : List ℕ) (linked : Linked s t w links ends) where
   abbrev S : Sheet K
   S = readings laws s
 
@@ -80,16 +102,16 @@ module _ {K F : Type 0} {below : K → K → Type 0} {top : K} {form : K → F} 
   T = readings laws t
 
   both_sizes : size w ≡ size S + size T
-  both_sizes = omega (arith, b.places, same_size laws s.places, same_size laws t.places)
+  both_sizes = omega (arith, linked.beside.places, same_size laws s.places, same_size laws t.places)
 
   -- the kind of a place side by side is that of its place in its own sheet
   left_kind : (x : ℕ) → x < size s → kind_held laws w.places x ≡ kind_of laws S x
   left_kind x h =
-      kind_read laws w.places x ∙ ap (loaded laws) (b.kind_left (form top) x h) ∙ sym (kind_read laws s.places x)
+      kind_read laws w.places x ∙ ap (loaded laws) (linked.beside.kind_left (form top) x h) ∙ sym (kind_read laws s.places x)
 
   right_kind : (p : ℕ) → p < size t → kind_held laws w.places (size s + p) ≡ kind_of laws T p
   right_kind p h =
-      kind_read laws w.places (size s + p) ∙ ap (loaded laws) (b.kind_right (form top) p h) ∙ sym (kind_read laws t.places p)
+      kind_read laws w.places (size s + p) ∙ ap (loaded laws) (linked.beside.kind_right (form top) p h) ∙ sym (kind_read laws t.places p)
 
   -- so a kind is at or below the kind of a place exactly if it is at or below the one that the table holds there
   under_held : (k : K) (x : ℕ) → below k (kind_held laws w.places x) → Under laws S T k x
@@ -112,7 +134,7 @@ module _ {K F : Type 0} {below : K → K → Type 0} {top : K} {form : K → F} 
         | no ge ↦
             let p : ℕ = x - size s in
             let e : x ≡ size s + p = omega arith in
-            let in_t : p < size t = omega (arith, b.places) in
+            let in_t : p < size t = omega (arith, linked.beside.places) in
             subst (λ (a : K). below k a) (sym (ap (kind_held laws w.places) e ∙ right_kind p in_t)) (u.if_right p (omega arith) (omega arith))
       ]
 
@@ -126,7 +148,7 @@ module _ {K F : Type 0} {below : K → K → Type 0} {top : K} {form : K → F} 
         none = λ k all.
             none.none k (λ x h e.
             held_under k x h (all x (omega arith)
-            (joined_read laws s t (class_joined s t w fs ft b links ends forest room flat joined none.place x none.inside h (none.stands ∙ sym e)))));
+            (joined_read laws s t (class_joined s t w links ends linked none.place x none.inside h (none.stands ∙ sym e)))));
       }
 
   module _ (v : Sheet F) (a : Alike w v) (met : Met laws ends (size w) w.places v.places) (m : Sheet F)
@@ -135,7 +157,7 @@ module _ {K F : Type 0} {below : K → K → Type 0} {top : K} {form : K → F} 
     class_kind : (x : ℕ) → x < size w → kind_of laws (readings laws m) (shape.class x) ≡ kind_held laws v.places (get_or ends x 0)
     class_kind x h =
         kind_read laws m.places (shape.class x)
-        ∙ ap (loaded laws) (shape.kinds (form top) x (omega (arith, b.places)))
+        ∙ ap (loaded laws) (shape.kinds (form top) x (omega (arith, linked.beside.places)))
         ∙ sym (kind_read laws v.places (get_or ends x 0))
 
     classes_made : Made laws S T (readings laws m)
@@ -143,7 +165,7 @@ module _ {K F : Type 0} {below : K → K → Type 0} {top : K} {form : K → F} 
         let n = same_size laws s.places in
         let k = same_size laws t.places in
         let sizes = both_sizes in
-        let classes = end_classes s t w fs ft b links ends forest room flat joined in
+        let classes = end_classes s t w links ends linked in
         record {
           formed = formed_read laws m shape.formed;
           class = shape.class;
@@ -156,13 +178,13 @@ module _ {K F : Type 0} {below : K → K → Type 0} {top : K} {form : K → F} 
           greatest = λ p c h all.
               let z = shape.onto p (omega (arith, same_size laws m.places)) in
               let x : ℕ = z.0 in
-              let x_in : x < size w = omega (arith, z.1, b.places) in
+              let x_in : x < size w = omega (arith, z.1, linked.beside.places) in
               let e : ℕ = get_or ends x 0 in
               let e_in : e < size w = omega (arith, classes.earlier x x_in) in
               subst (λ (d : K). below c d) (sym (class_kind x x_in) ∙ ap (kind_of laws (readings laws m)) z.2)
               (met.greatest e c e_in (classes.settled x x_in) (λ y y_in same_end.
               held_under c y y_in (all y (omega arith)
-              (shape.one y x (omega (arith, b.places)) z.1 (class_joined s t w fs ft b links ends forest room flat joined y x y_in x_in same_end) ∙ z.2))));
+              (shape.one y x (omega (arith, linked.beside.places)) z.1 (class_joined s t w links ends linked y x y_in x_in same_end) ∙ z.2))));
           all = λ x f y e. slot_read laws m (shape.class x) f (shape.class y) (shape.edges x f y (read_side laws s t x f y e));
           only = λ p f q e.
               let z = shape.only p f q (read_slot laws m p f q e) in
@@ -171,15 +193,15 @@ module _ {K F : Type 0} {below : K → K → Type 0} {top : K} {form : K → F} 
 
     -- and where each has one, numbered with their meets they are the merge
     pub classes_merge : IsMerge laws S T (readings laws m)
-    classes_merge = enough laws S T (readings laws m) (formed_read laws s fs) (formed_read laws t ft) classes_made
+    classes_merge = enough laws S T (readings laws m) (formed_read laws s linked.formed_s) (formed_read laws t linked.formed_t) classes_made
 
     -- each kind of the merge lies in its own form
     pub classes_own : (p : ℕ) → p < size m → kind_at (form top) m.places p ≡ form (loaded laws (kind_at (form top) m.places p))
     classes_own p h =
-        let classes = end_classes s t w fs ft b links ends forest room flat joined in
+        let classes = end_classes s t w links ends linked in
         let z = shape.onto p h in
         let x : ℕ = z.0 in
-        let x_in : x < size w = omega (arith, z.1, b.places) in
+        let x_in : x < size w = omega (arith, z.1, linked.beside.places) in
         let e : ℕ = get_or ends x 0 in
         let e_in : e < size w = omega (arith, classes.earlier x x_in) in
         let at_p : kind_at (form top) m.places p ≡ kind_at (form top) v.places e = ap (kind_at (form top) m.places) (sym z.2) ∙ shape.kinds (form top) x z.1 in

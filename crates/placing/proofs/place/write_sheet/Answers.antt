@@ -9,12 +9,6 @@ use Rattle.placing.specs.Arranged.{Arranged, drafted}
 use Rattle.placing.proofs.Sheeting.{sheet_read}
 use Rattle.placing.proofs.place.write_sheet.Goals as goal
 
-pub arrange-requires : goal.arrange-requires
-arrange-requires g c =
-    let n = length-take-le (length c.args.draft_places.now) c.args.work_places.now c.requires.places.1.1 in
-    let m = length-take-le (length c.args.draft_slots.now) c.args.work_slots.now c.requires.slots.1.1 in
-    record { sound = c.requires.sound; places = (n, omega (arith, n, c.requires.places.0)); slots = (m, omega (arith, m, c.requires.slots.0)) }
-
 -- the tables that are numbered hold the draft
 fronts : {K F : Type 0} (form : K → F) (d : Draft K) (n m : _) (ps more : List (PlaceRecord F)) (ss others : List SlotRecord) → length ps ≡ n → length ss ≡ m → Arranged form d ps ss
     → Arranged form d (take n (ps ++ more)) (take m (ss ++ others))
@@ -32,8 +26,8 @@ unwrap-requires g c =
     let s = take_at c.arrange.new.slots (drop (length ds) c.args.work_slots.now) (length ds) wide in
     c.renumber.ensures.answer.1 (record { draft = a.draft; places = omega (arith, ap length p, long, c.requires.places.1.0); slots = omega (arith, ap length s, wide, c.requires.slots.1.0) })
 
-pub returns : goal.returns
-returns g c =
+pub returns-clause-sheet : goal.returns-clause-sheet
+returns-clause-sheet g c =
     let dp = c.args.draft_places.now in
     let ds = c.args.draft_slots.now in
     let wp = c.args.work_places.now in
@@ -54,11 +48,14 @@ returns g c =
     let h : Renumbered tp ts c.unwrap.result oldp newp olds news = subst (λ r. Renumbers tp ts r oldp newp olds news) c.unwrap.ensures c.renumber.ensures.written in
     let n : length tp ≡ length dp = ap length p ∙ long in
     let m : length ts ≡ length ds = ap length s ∙ wide in
-    record {
-      counts = (h.places ∙ n, h.slots ∙ m);
-      sheet = sheet_read g.K.Kind.laws (drafted dp ds) c.requires.sound tp ts a c.unwrap.result oldp newp olds news h (omega (arith, n, c.renumber.auto.outp, c.requires.places.1.0)) (omega (arith, m, c.renumber.auto.outs, c.requires.slots.1.0));
-      places = h.places_past;
-      slots = h.slots_past;
-      work_places = drop-append-drop (length dp) wp ap₁ 1000 c.requires.places.0 long;
-      work_slots = drop-append-drop (length ds) ws as₁ 4000 c.requires.slots.0 wide;
-    }
+    sheet_read g.K.Kind.laws (drafted dp ds) c.requires.sound tp ts a c.unwrap.result oldp newp olds news h (omega (arith, n, c.renumber.auto.outp, c.requires.places.1.0)) (omega (arith, m, c.renumber.auto.outs, c.requires.slots.1.0))
+
+pub returns-clause-work_places : goal.returns-clause-work_places
+returns-clause-work_places g c =
+    let n = length c.args.draft_places.now in
+    drop-append-drop n c.args.work_places.now c.arrange.new.places 1000 c.requires.places.0 (c.arrange.auto.places ∙ length-take-le n c.args.work_places.now c.requires.places.1.1)
+
+pub returns-clause-work_slots : goal.returns-clause-work_slots
+returns-clause-work_slots g c =
+    let n = length c.args.draft_slots.now in
+    drop-append-drop n c.args.work_slots.now c.arrange.new.slots 4000 c.requires.slots.0 (c.arrange.auto.slots ∙ length-take-le n c.args.work_slots.now c.requires.slots.1.1)
