@@ -45,33 +45,6 @@ module _ {A : Type 0} where
     omega (arith, ap length e, length-append x (drop n old), length-drop n old),
   )
 
-  -- nothing, and one more copy of y, and all copies of y are written
-  pub blank_none : (d : List A) (from : ℕ) (y : A) → d ≡ paste d from (replicate (from - from) y) (from - from)
-  blank_none d from y =
-      let z : 0 ≡ from - from = omega arith in
-      paste_none d from (replicate 0 y) ∙ ap (λ n. paste d from (replicate n y) n) z
-
-  pub blank_put : (d new : List A) (from i : ℕ) (y : A) → new ≡ paste d from (replicate (i - from) y) (i - from) → from ≤ i → i < length d
-      → set new i y ≡ paste d from (replicate (i + 1 - from) y) (i + 1 - from)
-  blank_put d new from i y e h l =
-      let at : i ≡ from + (i - from) = omega arith in
-      let next : i - from + 1 ≡ i + 1 - from = omega arith in
-      ap (λ r. set r i y) e
-      ∙ ap (λ k. set (paste d from (replicate (i - from) y) (i - from)) k y) at
-      ∙ fill_from_more d from (i - from) y (omega arith)
-      ∙ ap (λ n. paste d from (replicate n y) n) next
-
-  pub blank_all : (d new : List A) (from i upto : ℕ) (y : A) → new ≡ paste d from (replicate (i - from) y) (i - from) → i ≡ upto → from ≤ upto
-      → new ≡ take from d ++ replicate (upto - from) y ++ drop upto d
-  blank_all d new from i upto y e h l =
-      let n : ℕ = upto - from in
-      let k : i - from ≡ n = omega arith in
-      let end : from + n ≡ upto = omega arith in
-      e
-      ∙ ap (λ z. paste d from (replicate z y) z) k
-      ∙ ap (λ r. take from d ++ r ++ drop (from + n) d) (take_all n (replicate n y) (omega (arith, length-replicate n y)))
-      ∙ ap (λ z. take from d ++ replicate n y ++ drop z d) end
-
 -- what is made of an element that was read
 pub mapped_read : {A B : Type 0} (f : A → B) (xs : List A) (i : ℕ) (x : A) (d : B) → i < length xs → x ≡ get_or xs i x → f x ≡ get_or (map f xs) i d
 mapped_read f xs i x d h is = ap f is ∙ sym (get_or-map f xs i x d h)

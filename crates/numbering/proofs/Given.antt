@@ -35,16 +35,6 @@ module _ (o : List ℕ) (number : List (Option ℕ)) (known : Known o number) wh
     pub room : (n : ℕ) → length number ≡ n → v < n → length o < n
     room n long h = omega (arith, order_few (order_push n o v (ordered n long) h unknown), length_push o v)
 
-    pub extended_new : Extended o v (length o) (o ++ v ∷ [])
-    extended_new =
-        record {
-          old = λ k l. get_or_append_left o (v ∷ []) 0 k l;
-          near = omega arith;
-          size = omega (arith, length_push o v);
-          is = get_or_push o v 0 (length o) refl;
-          new = λ z k l. unknown k l;
-        }
-
     pub known_more : v < length number → Known (o ++ v ∷ []) (set number v (Some (length o)))
     known_more h k l =
         grind (

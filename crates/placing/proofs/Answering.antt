@@ -33,11 +33,6 @@ module _ {K F : Type 0} {below : K → K → Type 0} {top : K} {form : K → F} 
   told f None s ps ss byte is never = absurd (never is)
   told f (Some b) s ps ss byte is never = subst (λ t. ReadAs laws t (Err f) ps ss) is (refl, byte)
 
-  -- a refusal
-  pub read_refused : (f : ReadFault) (ps : List (PlaceRecord F)) (ss : List SlotRecord) → refused f ≡ read_place words ranges pl sl line → ReadAs laws (read_place words ranges pl sl line) (Err f) ps ss
-  read_refused f ps ss is =
-      told f (byte_of f) (read_place words ranges pl sl line) ps ss refl is (λ e. let z = refusal_numbered words ranges pl sl line 0 0 (sym e) in omega arith)
-
   module _ (cur : Cursor) (dps : List (Place K)) (dss : List Slot) (is : go (draft cur dps dss) ≡ read_place words ranges pl sl line) where
     pub draft_sound : Sound (drafted (take cur.places dps) (take cur.slots dss))
     draft_sound = sound_plain (draft cur dps dss) (read_sound words ranges pl sl line (draft cur dps dss) (sym is)).0

@@ -1,4 +1,3 @@
-pub mod Columns
 pub mod Counting
 pub mod Owned
 pub mod Fields

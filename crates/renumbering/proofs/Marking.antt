@@ -10,33 +10,6 @@ use Rattle.records.specs.Checks as checks
 use Rattle.records.proofs.Owned.{own_length, own_target}
 use Rattle.renumbering.specs.Drafts.{LedBefore, LedOn, Marks, marked}
 
--- one more slot's target is marked
-pub marks_more : (ss : List SlotRecord) (n t : ℕ) (old new : List Bool) → t ≡ target_at ss n → t < length new → Marks ss n old new
-    → Marks ss (n + 1) old (set new t true)
-marks_more ss n t old new e h m =
-    let here : marked (set new t true) t ≡ true = get_or-set_same new t true false h in
-    let kept : (q : ℕ) → marked new q ≡ true → marked (set new t true) q ≡ true =
-    λ q is. elim (ℕ_discrete q t) [
-      | yes at ↦ ap (marked (set new t true)) at ∙ here
-      | no off ↦ get_or-set_other new t q true false off ∙ is
-    ] in
-    record {
-      still = λ q is. kept q (m.still q is);
-      more = λ k u. elim (dec_lt k n) [
-        | yes lt ↦ kept (target_at ss k) (m.more k lt)
-        | no ge ↦
-            let at : k ≡ n = omega arith in
-            ap (λ j. marked (set new t true) (target_at ss j)) at ∙ ap (marked (set new t true)) (sym e) ∙ here
-      ];
-      only = λ q is. elim (ℕ_discrete q t) [
-        | yes at ↦ inr (n, omega arith, sym e ∙ sym at)
-        | no off ↦ elim (m.only q (sym (get_or-set_other new t q true false off) ∙ is)) [
-          | inl was ↦ inl was
-          | inr z ↦ inr (z.0, omega (arith, z.1), z.2)
-        ]
-      ];
-    }
-
 -- the root is marked, and those are that the places before p lead to
 pub record Marked {F : Type 0} (ps : List (PlaceRecord F)) (ss : List SlotRecord) (p : ℕ) (marks : List Bool) : Type 0 where
   pub root : marked marks 0 ≡ true
