@@ -1,6 +1,6 @@
 // The standing sheet of a job as a table: place, kind, slots.
 use crate::draft::{OrderKind, OrderPlace};
-use crate::text::Spelt;
+use crate::text::kind_text;
 use anyhow::Context;
 use jobs::Job;
 use kinds::kind::Kind;
@@ -37,7 +37,7 @@ pub fn print_standing(rt: &HostRuntime, job: &Job<'_, OrderKind>) -> anyhow::Res
     let slots: &[SlotRecord] = job.slots;
     let tables = Tables { places, slots };
     for (p, place) in places.iter().take(job.counts().places).enumerate() {
-        let kind = Spelt(OrderKind::load(place.kind)).to_string(rt.alloc())?;
+        let kind = kind_text(rt.alloc(), OrderKind::load(place.kind))?;
         print!(rt; "{p:<7}{kind:<17}")?;
         print_slots(rt, tables.slots_of(p))?;
     }
