@@ -1,21 +1,11 @@
-use Rattle.std.proofs.Common.{◌≡◌, ◌+◌, drop, None, sym, ap, ◌∙◌, rules}
-use Rattle.std.specs.Option.{option_or}
-use Rattle.std.proofs.lemmas.List.{at_drop_more, at_drop_all}
-use Rattle.reading.specs.Lookups.{unmarked}
+use Rattle.std.proofs.Common.{subst, ap, ◌∙◌, rules}
+use Rattle.std.specs.Iterator.Runs.{ItemsMapTo}
+use Rattle.std.specs.Slice.Iter.{iter_rest}
+use Rattle.reading.proofs.Marking.{first_of_run}
 use Rattle.reading.proofs.drafting.lookup.Lookup.first_undescribed.Goals as goal
 
-pub returns-in-Some : goal.returns-in-Some
-returns-in-Some c =
-    sym (at_drop_more (λ l. unmarked l c.args.self.now.described) c.args.slots.now c.loop-s.s-index _ c.loop-s-test.true ∙
-    ap (λ o. option_or o (unmarked (drop (c.loop-s.s-index + 1) c.args.slots.now) c.args.self.now.described)) (sym c.in-Some.ensures)) ∙
-    c.loop-s.invariant
-
-pub loop-s-preserved : goal.loop-s-preserved
-loop-s-preserved c =
-    let none : c.undescribed_at.result ≡ None = search rules in
-    sym (at_drop_more (λ l. unmarked l c.args.self.now.described) c.args.slots.now c.loop-s.s-index _ c.loop-s-test.true ∙
-    ap (λ o. option_or o (unmarked (drop (c.loop-s.s-index + 1) c.args.slots.now) c.args.self.now.described)) (sym c.undescribed_at.ensures ∙ none)) ∙
-    c.loop-s.invariant
-
 pub returns : goal.returns
-returns c = sym (at_drop_all (λ l. unmarked l c.args.self.now.described) c.args.slots.now c.loop-s.s-index c.loop-s-test.false) ∙ c.loop-s.invariant
+returns c =
+    let r = c.find_map.ensures.runs in
+    let items = subst (ItemsMapTo r.0 (λ y. y.now)) (ap iter_rest r.1 ∙ c.iter.ensures.rest) (c.iter.ensures.runs r.0 r.0.seen) in
+    first_of_run c.args.self.now.described _ _ c.args.slots.now (λ a o q k. search rules) (λ x o q k. search rules) r.0 items _ r.2
