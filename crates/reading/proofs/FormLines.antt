@@ -16,13 +16,13 @@ module _ {K : Type 0} (words : List ℕ → Option K) (ranges : ℤ → ℤ → 
     pub inside : from ≤ length line
     pub rest : form_from words ranges turns pl sl line from f ≡ read_form words ranges pl sl line
 
-  pub left_start : (pl sl : ℕ) (line : List ℕ) (f : Formed K) → f ≡ unread → length line ≤ 60000 → Left pl sl line 0 f
+  pub left_start : (pl sl : ℕ) (line : List ℕ) (from : ℕ) (f : Formed K) → from ≡ 0 → f ≡ unread → length line ≤ 60000 → Left pl sl line from f
   unfolding read_form
-  left_start pl sl line f e le = record {
+  left_start pl sl line from f z e le = record {
     turns = suc (length line);
     enough = omega arith;
     inside = omega arith;
-    rest = ap (form_from words ranges (suc (length line)) pl sl line 0) e ∙ sym (cond-false _ _ _ (le-ltb 60000 (length line) le));
+    rest = (λ i. form_from words ranges (suc (length line)) pl sl line (z i) (e i)) ∙ sym (cond-false _ _ _ (le-ltb 60000 (length line) le));
   }
 
   pub too_long : (pl sl : ℕ) (line : List ℕ) → 60000 < length line → refused 10 0 ≡ read_form words ranges pl sl line
@@ -67,10 +67,10 @@ module _ {K : Type 0} (words : List ℕ → Option K) (ranges : ℤ → ℤ → 
     pub left_ahead : (x : Tok) (i j : ℕ) → token x i j ≡ next_token line from → (from < j) × (j ≤ length line)
     left_ahead x i j e = let a : Ahead from (length line) (token x i j) = subst (Ahead from (length line)) (sym e) (next_ahead line from) in omega arith
 
-    pub left_more : (x : Tok) (i j : ℕ) (f₂ : Formed K) → token x i j ≡ next_token line from → goes f₂ ≡ form_step words ranges pl sl line f x i j → Left pl sl line j f₂
-    left_more x i j f₂ e k =
+    pub left_more : (x : Tok) (i j to : ℕ) (f₂ : Formed K) → token x i j ≡ next_token line from → to ≡ j → goes f₂ ≡ form_step words ranges pl sl line f x i j → Left pl sl line to f₂
+    left_more x i j to f₂ e t k =
         let a = left_ahead x i j e in
-        record { turns = unrolled.0; enough = omega (arith, unrolled.1); inside = omega arith; rest = stepped x i j (goes f₂) e k }
+        record { turns = unrolled.0; enough = omega (arith, unrolled.1); inside = omega arith; rest = ap (λ n. form_from words ranges unrolled.0 pl sl line n f₂) t ∙ stepped x i j (goes f₂) e k }
 
   pub same_room : (pl pl₂ sl sl₂ : ℕ) (line : List ℕ) → pl ≡ pl₂ → sl ≡ sl₂ → read_form words ranges pl sl line ≡ read_form words ranges pl₂ sl₂ line
   same_room pl pl₂ sl sl₂ line p q = λ i. read_form words ranges (p i) (q i) line

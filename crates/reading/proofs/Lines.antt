@@ -17,13 +17,13 @@ module _ {K : Type 0} (words : List ℕ → Option K) (ranges : ℤ → ℤ → 
     pub inside : from ≤ length line
     pub rest : read_from words ranges turns pl sl line from d ≡ read_place words ranges pl sl line
 
-  pub left_start : (pl sl : ℕ) (line : List ℕ) (d : Draft K) → d ≡ nothing → length line ≤ 60000 → Left pl sl line 0 d
+  pub left_start : (pl sl : ℕ) (line : List ℕ) (from : ℕ) (d : Draft K) → from ≡ 0 → d ≡ nothing → length line ≤ 60000 → Left pl sl line from d
   unfolding read_place
-  left_start pl sl line d e le = record {
+  left_start pl sl line from d z e le = record {
     turns = suc (length line);
     enough = omega arith;
     inside = omega arith;
-    rest = ap (read_from words ranges (suc (length line)) pl sl line 0) e ∙ sym (cond-false _ _ _ (le-ltb 60000 (length line) le));
+    rest = (λ i. read_from words ranges (suc (length line)) pl sl line (z i) (e i)) ∙ sym (cond-false _ _ _ (le-ltb 60000 (length line) le));
   }
 
   pub too_long : (pl sl : ℕ) (line : List ℕ) → 60000 < length line → fault 10 0 ≡ read_place words ranges pl sl line
@@ -67,10 +67,10 @@ module _ {K : Type 0} (words : List ℕ → Option K) (ranges : ℤ → ℤ → 
     pub left_ahead : (x : Tok) (i j : ℕ) → token x i j ≡ next_token line from → (from < j) × (j ≤ length line)
     left_ahead x i j e = let a : Ahead from (length line) (token x i j) = subst (Ahead from (length line)) (sym e) (next_ahead line from) in omega arith
 
-    pub left_more : (x : Tok) (i j : ℕ) (d₂ : Draft K) → token x i j ≡ next_token line from → go d₂ ≡ step words ranges pl sl line d x i j → Left pl sl line j d₂
-    left_more x i j d₂ e k =
+    pub left_more : (x : Tok) (i j to : ℕ) (d₂ : Draft K) → token x i j ≡ next_token line from → to ≡ j → go d₂ ≡ step words ranges pl sl line d x i j → Left pl sl line to d₂
+    left_more x i j to d₂ e t k =
         let a = left_ahead x i j e in
-        record { turns = unrolled.0; enough = omega (arith, unrolled.1); inside = omega arith; rest = stepped x i j (go d₂) e k }
+        record { turns = unrolled.0; enough = omega (arith, unrolled.1); inside = omega arith; rest = ap (λ n. read_from words ranges unrolled.0 pl sl line n d₂) t ∙ stepped x i j (go d₂) e k }
 
   pub same_room : (pl pl₂ sl sl₂ : ℕ) (line : List ℕ) → pl ≡ pl₂ → sl ≡ sl₂ → read_place words ranges pl sl line ≡ read_place words ranges pl₂ sl₂ line
   same_room pl pl₂ sl sl₂ line p q = λ i. read_place words ranges (p i) (q i) line

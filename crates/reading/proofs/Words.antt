@@ -1,12 +1,17 @@
 -- A token that is a word has the form of one, and one of at most twelve bytes is a name.
-use Rattle.std.proofs.Common.{◌≡◌, ℕ, zero, suc, ◌+◌, ◌<◌, ◌≤◌, true, false, eqb, leb, List, [], ◌∷◌, length, get_or, take, drop, ℤ, Some, None, Option, sym, subst, inl, inr, ⊎_elim, arith}
+use Rattle.std.proofs.Common.{◌≡◌, ℕ, zero, suc, ◌+◌, ◌<◌, ◌≤◌, true, false, eqb, leb, List, [], ◌∷◌, length, get_or, take, drop, ℤ, Some, None, Option, Result, sym, ap, ◌∙◌, subst, inl, inr, ⊎_elim, arith}
 use Rattle.std.specs.Int.{is_in_range}
+use Rattle.std.specs.Option.{option_transpose}
 use Rattle.std.proofs.lemmas.List.{get_or-take, length-take-le}
 use Rattle.std.proofs.lemmas.List.Sums.{prefix_len-le-length}
 use Rattle.std.proofs.lemmas.Bool.{cond_both, cond-true, and_parts, or_cases, or_left, eqb-true, leb-true}
 use Rattle.names.specs.Names.{Letter, NameByte, Name}
 use Rattle.tokens.specs.declared.token.class.Class.{Class}
 use Rattle.tokens.specs.declared.token.class.Class.TheVariants.{Digit, WordByte}
+use Rattle.tokens.specs.declared.fault.TextFault.{TextFault}
+use Rattle.tokens.specs.declared.token.Lexeme.{Lexeme}
+use Rattle.tokens.specs.declared.token.Lexemes.{Lexemes}
+use Rattle.tokens.specs.Answers.{answer, Gives}
 use Rattle.tokens.specs.Tokens.{Tok, Next, finish, token, refusal, member, run, number_of, number_token, is_mark, token_at, first_token, after_spaces, next_token}
 use Rattle.vocabulary.specs.Texts.{Word}
 use Rattle.reading.specs.Held.{Worded}
@@ -69,3 +74,7 @@ next_worded line from x i j e = subst Next-worded (sym e) (first_worded (drop (a
 
 pub short_name : (w : List ℕ) → Word w → length w ≤ 12 → Name w
 short_name w h few = record { some = h.some; few = few; first = h.first; others = h.others }
+
+-- what a call of the line's tokens says of the line
+pub told : (s t : Lexemes) (line : List ℕ) (r : Option (Result Lexeme TextFault)) → Gives s r t → s.line.now ≡ line → answer (option_transpose r) ≡ next_token line s.from
+told s t line r g e = g.answer ∙ ap (λ l. next_token l s.from) e

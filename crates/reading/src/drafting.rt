@@ -8,7 +8,7 @@ use crate::drafting::reader::DraftReader;
 use crate::fault::ReadFault;
 use kinds::kind::Kind;
 use records::{MOST_PLACES, MOST_SLOTS};
-use tokens::token::{checked_length, next_token};
+use tokens::token::{Lexemes, checked_length};
 use vocabulary::vocabulary::Vocabulary;
 
 mod describing;
@@ -29,10 +29,8 @@ fn read_within<K: Kind, V: Vocabulary<K>>(
 {
     checked_length(line)?;
     let mut draft = DraftReader::new(places, slots);
-    let mut from = 0;
-    while let Some(x) = next_token(line, from)? {
-        draft.step::<V>(x, line)?;
-        from = x.end;
+    for x in Lexemes::new(line) {
+        draft.step::<V>(x?, line)?;
     }
     draft.end(line.len())?;
     Ok(draft.cur)

@@ -9,7 +9,7 @@ use crate::fault::ReadFault;
 use crate::form::{Form, FormCursor, Stage};
 use crate::path::Path;
 use kinds::kind::Kind;
-use tokens::token::{checked_length, next_token};
+use tokens::token::{Lexemes, checked_length};
 use vocabulary::vocabulary::Vocabulary;
 
 mod paths;
@@ -36,11 +36,9 @@ pub(crate) fn read_form_draft<K: Kind, V: Vocabulary<K>>(
         first: Path::empty(),
         second: Path::empty(),
     };
-    let mut from = 0;
     // The loop of a draft's line again: a trait for the two would repeat in its ghost members all that `step` and `end` ensure.
-    while let Some(x) = next_token(line, from)? {
-        form = form.step::<K, V>(x, line, &mut place, &mut kind)?;
-        from = x.end;
+    for x in Lexemes::new(line) {
+        form = form.step::<K, V>(x?, line, &mut place, &mut kind)?;
     }
     form.end(line.len(), &place)?;
     let cur = form.cursor(place.cur, kind.cur);

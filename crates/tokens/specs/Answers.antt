@@ -1,12 +1,14 @@
 -- What the answers of the code stand for.
 use Rattle.std.specs.Prelude.{◌≡◌, ℕ, ◌-◌, ◌<◌, ◌≤◌, List, length, take, drop, Some, None, Ok, Err, Option, Result}
+use Rattle.std.specs.Option.{option_transpose}
 use Rattle.tokens.specs.declared.fault.TextFault.{TextFault}
 use Rattle.tokens.specs.declared.fault.TextFault.TheVariants.{LongLine}
 use Rattle.tokens.specs.declared.token.Token.{Token}
 use Rattle.tokens.specs.declared.token.Token.TheVariants.{RoundOpen, RoundClose, SquareOpen, SquareClose, Hash, Dots, Word, Number}
 use Rattle.tokens.specs.declared.token.Lexeme.{Lexeme}
+use Rattle.tokens.specs.declared.token.Lexemes.{Lexemes}
 use Rattle.tokens.specs.Faults.{text_number, text_byte}
-use Rattle.tokens.specs.Tokens.{Tok, mark, word, number, Next, finish, token, refusal}
+use Rattle.tokens.specs.Tokens.{Tok, mark, word, number, Next, finish, token, refusal, next_token}
 
 -- the token that a token of the code stands for
 abbrev pub meant : Token → Tok
@@ -44,3 +46,16 @@ Shows line (Err f) = Unit {0}
 abbrev pub Checked : List ℕ → Result Unit TextFault → Type 0
 Checked line (Ok u) = length line ≤ 60000
 Checked line (Err f) = (60000 < length line) × (f ≡ LongLine)
+
+-- where the tokens of a line go on: after a token at its end, and after a fault at the line's
+abbrev pub goes_on : List ℕ → ℕ → Option (Result Lexeme TextFault) → ℕ
+goes_on line i None = i
+goes_on line i (Some (Ok x)) = x.«end»
+goes_on line i (Some (Err f)) = length line
+
+-- the tokens s of a line give what stands next there, and go on as t
+pub record Gives (s : Lexemes) (r : Option (Result Lexeme TextFault)) (t : Lexemes) : Type 0 where
+  pub answer : answer (option_transpose r) ≡ next_token s.line.now s.from
+  pub bytes : Shows s.line.now (option_transpose r)
+  pub line : t.line.now ≡ s.line.now
+  pub from : t.from ≡ goes_on s.line.now s.from r

@@ -3,5 +3,5 @@
 
 // The faults of the text layer.
 pub mod fault;
-// Tokens, and the one that stands next on a line.
+// Tokens, the one that stands next on a line, and all of a line in order.
 pub mod token;

@@ -1,7 +1,8 @@
 // The tokens of a line.
-ghost use Rattle.std.specs.Prelude.{◌≡◌, ◌+◌, ◌<◌, ◌≤◌, length, drop, slice_index};
+ghost use Rattle.std.specs.Prelude.{◌≡◌, ◌+◌, ◌-◌, ◌<◌, ◌≤◌, length, drop, slice_index};
+ghost use Rattle.std.specs.Iterator.{at_most};
 ghost use Rattle.tokens.specs.Tokens.{number_at, word_at, token_at, next_token, Ahead};
-ghost use Rattle.tokens.specs.Answers.{answer, answer_at, Shows, Checked};
+ghost use Rattle.tokens.specs.Answers.{answer, answer_at, Shows, Checked, Gives};
 
 use crate::fault::TextFault;
 use crate::token::class::Class;
@@ -116,4 +117,35 @@ pub fn next_token<'a>(line: &'a [u8], from: usize) -> Result<Option<Lexeme<'a>>,
         start,
         end,
     }))
+}
+
+// The tokens of a line from a place on, in order; a fault is the last.
+#[derive(Drop)]
+pub struct Lexemes<'a> {
+    pub line: &'a [u8],
+    pub from: usize,
+}
+
+impl<'a> Lexemes<'a> {
+    // All tokens of the line.
+    pub fn new(line: &'a [u8]) -> Lexemes<'a>
+        ensures line { result.line.now ≡ line.now }
+        ensures from { result.from ≡ 0 }
+    {
+        Lexemes { line, from: 0 }
+    }
+}
+
+impl<'a> Iterator for Lexemes<'a> {
+    type Item = Result<Lexeme<'a>, TextFault>;
+
+    ghost next_gives = { Gives };
+
+    ghost remaining = { λ s. at_most (length s.line.now - s.from) };
+
+    fn next(&mut self) -> Option<Result<Lexeme<'a>, TextFault>> {
+        let next = next_token(self.line, self.from).transpose()?;
+        self.from = next.map_or(self.line.len(), |x| x.end);
+        Some(next)
+    }
 }

@@ -1,9 +1,8 @@
 // Kinds of places as they are read: words, and ranges from their bracket on.
-ghost use Rattle.std.specs.Prelude.{◌≡◌, ℕ, Bool, false, not, ◌&&◌, length, ℤ, is_some, if◌then◌else◌, int_lt};
+ghost use Rattle.std.specs.Prelude.{◌≡◌, length};
 ghost use Rattle.tokens.specs.Answers.{meant};
-ghost use Rattle.tokens.specs.Tokens.{next_token};
 ghost use Rattle.reading.specs.Readers.{read, came, SameTables};
-ghost use Rattle.reading.specs.Steps.{describe, word_first, range_first, kind_first, range_last, no_kind_ahead, on_next, on_number, on_mark, on_some};
+ghost use Rattle.reading.specs.Steps.{go, once, describe, word_first, range_first, kind_first, range_last, no_kind_ahead};
 
 use crate::draft::{Bracket, Cursor, Mode, Place, Tag};
 use crate::drafting::reader::DraftReader;
@@ -12,66 +11,22 @@ use kinds::kind::Kind;
 use tokens::token::{Lexeme, Token, next_token};
 use vocabulary::vocabulary::Vocabulary;
 
-// The number that stands next on the line from `from` on, and the place after it. (The two functions below are alike but for the
-// token and what they give of it: one for all three would take a closure, and is longer.)
-fn number_ahead(line: &[u8], from: usize) -> Option<(i32, usize)>
-    ensures { (rest : ℤ → ℕ → Bool) → on_some result (λ x. rest x.0 x.1) false ≡ on_next (next_token line.now from) false (λ x i j. on_number x (λ n. rest n j) false) (λ n b. false) }
-{
-    let x = next_token(line, from).ok().flatten()?;
-    match x.token {
-        Token::Number(n) => Some((n, x.end)),
-        _ => None,
-    }
-}
-
-// The place after two dots that stand next on the line from `from` on.
-fn dots_ahead(line: &[u8], from: usize) -> Option<usize>
-    ensures { (rest : ℕ → Bool) → on_some result rest false ≡ on_next (next_token line.now from) false (λ x i j. on_mark 46 x (rest j) false) (λ n b. false) }
-{
-    let x = next_token(line, from).ok().flatten()?;
-    match x.token {
-        Token::Dots => Some(x.end),
-        _ => None,
-    }
-}
-
-// Whether the bracket that ends a range stands next on the line from `from` on.
-fn ends_ahead(line: &[u8], from: usize) -> bool
-    ensures { (rest : Bool) → (if result then rest else false) ≡ on_next (next_token line.now from) false (λ x i j. on_mark 93 x rest false) (λ n b. false) }
-{
-    matches!(
-        next_token(line, from),
-        Ok(Some(Lexeme {
-            token: Token::SquareClose,
-            ..
-        }))
-    )
-}
-
-// Whether a range whose low end is not above its high end is no kind.
-fn is_no_kind<K: Kind, V: Vocabulary<K>>(low: i32, high: i32) -> bool
-    ensures { result ≡ (not (int_lt high low) && not (is_some (V.Vocabulary.ranges low high))) }
-{
-    high >= low && V::range(low, high).is_none()
-}
-
-// Whether the line goes on with a whole range that is no kind.
+// Whether the line goes on with a whole range that is no kind: its low end is not above its high end, and the vocabulary has none.
 fn no_kind_ahead<K: Kind, V: Vocabulary<K>>(line: &[u8], from: usize) -> bool
     ensures { result ≡ no_kind_ahead V.Vocabulary.words V.Vocabulary.ranges line.now from }
 {
-    let Some((low, dots)) = number_ahead(line, from) else {
-        return false;
-    };
-    let Some(second) = dots_ahead(line, dots) else {
-        return false;
-    };
-    let Some((high, bracket)) = number_ahead(line, second) else {
-        return false;
-    };
-    if !ends_ahead(line, bracket) {
-        return false;
+    if let Ok(Some(first)) = next_token(line, from)
+        && let Token::Number(low) = first.token
+        && let Ok(Some(dots)) = next_token(line, first.end)
+        && let Token::Dots = dots.token
+        && let Ok(Some(last)) = next_token(line, dots.end)
+        && let Token::Number(high) = last.token
+        && let Ok(Some(close)) = next_token(line, last.end)
+        && let Token::SquareClose = close.token
+    {
+        return low <= high && V::range(low, high).is_none();
     }
-    is_no_kind::<K, V>(low, high)
+    false
 }
 
 impl<K: Kind> DraftReader<'_, K> {
@@ -99,6 +54,16 @@ impl<K: Kind> DraftReader<'_, K> {
         Ok(())
     }
 
+    // Refuses a tag that a place describes already.
+    fn once(&self, tag: Option<Tag>) -> Result<(), ReadFault>
+        ensures { came result self.now ≡ once tag (read self.now) (go (read self.now)) }
+    {
+        match self.look.described_at(tag) {
+            Some(b) => Err(ReadFault::Broken(Rule::TagTwice, b)),
+            None => Ok(()),
+        }
+    }
+
     // A kind begins by the word.
     fn word_first<V: Vocabulary<K>>(
         &mut self,
@@ -109,9 +74,7 @@ impl<K: Kind> DraftReader<'_, K> {
         ensures is { came result self.new ≡ word_first V.Vocabulary.words V.Vocabulary.ranges (length self.old.places.now) tag (read self.old) word.now byte }
         ensures tables { SameTables self.old self.new }
     {
-        if let Some(b) = self.look.described_at(tag) {
-            return Err(ReadFault::Broken(Rule::TagTwice, b));
-        }
+        self.once(tag)?;
         let kind = V::word(word).ok_or(ReadFault::Broken(Rule::NoKind, byte))?;
         self.push_place(tag, kind, byte)
     }
@@ -127,9 +90,7 @@ impl<K: Kind> DraftReader<'_, K> {
         ensures is { came result self.new ≡ range_first V.Vocabulary.words V.Vocabulary.ranges (length self.old.places.now) line.now tag (read self.old) byte from }
         ensures tables { SameTables self.old self.new }
     {
-        if let Some(b) = self.look.described_at(tag) {
-            return Err(ReadFault::Broken(Rule::TagTwice, b));
-        }
+        self.once(tag)?;
         if self.cur.places < self.places.len() {
             self.cur.mode = Mode::Low(Bracket { tag, byte });
             return Ok(());

@@ -66,13 +66,7 @@ impl Lookup {
     pub(crate) fn first_undescribed(&self, slots: &[Slot]) -> Option<usize>
         ensures { result ≡ unmarked slots.now self.now.described }
     {
-        // A loop: what `find_map` ensures did not give the first byte of the list in a proof.
-        for s in slots {
-            if let Some(b) = self.undescribed_at(s.target) {
-                return Some(b);
-            }
-        }
-        None
+        slots.iter().find_map(|s| self.undescribed_at(s.target))
     }
 
     // The slot `at` is the newest of the place.
