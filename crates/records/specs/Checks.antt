@@ -10,7 +10,8 @@ sum_before ps zero = 0
 sum_before ps (suc p) = sum_before ps p + count_at ps p
 
 module _ {F : Type 0} (ps : List (PlaceRecord F)) (ss : List SlotRecord) where
-  -- the first number of each place is the sum of the earlier counts, and all counts come to the number of the slots
+  -- The first number of each place is the sum of the earlier counts, and all counts come to the number of the slots. (`Counted` of
+  -- renumbering says this from place to place. The two differ for tables of no place: this one asks that they have no slot.)
   pub record Counted : Type 0 where
     pub first : (p : ℕ) → p < length ps → first_at ps p ≡ sum_before ps p
     pub total : sum_before ps (length ps) ≡ length ss
@@ -23,5 +24,7 @@ module _ {F : Type 0} (ps : List (PlaceRecord F)) (ss : List SlotRecord) where
   abbrev pub RisingAt : ℕ → Type 0
   RisingAt p = (i : ℕ) → first_at ps p ≤ i → suc i < first_at ps p + count_at ps p → suc i < length ss → name_at ss i < name_at ss (suc i)
 
+  -- They do at each place. (`Rising` of renumbering asks for it past the end of the table of slots too: the two are one where the
+  -- tables are counted.)
   abbrev pub Rising : Type 0
   Rising = (p : ℕ) → p < length ps → RisingAt p

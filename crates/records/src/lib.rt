@@ -1,5 +1,8 @@
 // The records of a sheet, and what a table of them says. A sheet is what the field calls a rooted sorted feature graph, or
 // psi-term: a place is a node, and a slot is a feature, an edge with a name.
+//
+// The limits of a sheet and of a path stand here once, for all crates. `own_numbers` is for tables with an entry for each place, which
+// says what place that one is joined with: it joins none, so that each place stands for itself.
 #![tactic(auto)]
 
 ghost use Rattle.std.specs.Prelude.{◌≡◌, ◌+◌, min, ◌++◌, length, take, drop, Decides};
@@ -14,6 +17,9 @@ use kinds::kind::Kind;
 pub const MOST_PLACES: usize = 1000;
 
 pub const MOST_SLOTS: usize = 4000;
+
+// The most names of a path.
+pub const MOST_NAMES: usize = 16;
 
 // A place: the stored form of its kind, the number of slots of all earlier places, and its own number of slots.
 #[derive(Clone, Copy, PartialEq, Eq, Debug)]
@@ -30,8 +36,8 @@ pub struct SlotRecord {
     pub target: u16,
 }
 
-// How many places and slots a sheet has.
-#[derive(Clone, Copy, PartialEq, Eq, Debug)]
+// How many places and slots a sheet has. By default none of either.
+#[derive(Clone, Copy, PartialEq, Eq, Debug, Default)]
 pub struct Counts {
     pub places: usize,
     pub slots: usize,

@@ -9,13 +9,14 @@ use Rattle.records.specs.Checks.{Aimed}
 use Rattle.numbering.specs.Quotient.{Quotient, Kept}
 
 module _ {F : Type 0} (ps : List (PlaceRecord F)) (ss : List SlotRecord) where
-  -- the first number of a place is the sum of the earlier counts, and all counts come to the number of the slots
+  -- The first number of a place is the sum of the earlier counts, and all counts come to the number of the slots. (`Counted` of
+  -- records says this with the sum itself, and also that tables of no place have no slot, of which this one says nothing.)
   pub record Counted : Type 0 where
     pub first : first_at ps 0 ≡ 0
     pub running : (p : ℕ) → suc p < length ps → first_at ps (suc p) ≡ first_at ps p + count_at ps p
     pub last : (p : ℕ) → suc p ≡ length ps → first_at ps p + count_at ps p ≡ length ss
 
-  -- within a place the names rise
+  -- Within a place the names rise. (`Rising` of records says this only as far as the table of slots reaches.)
   abbrev pub Rising : Type 0
   Rising = (p i : ℕ) → p < length ps → first_at ps p ≤ i → suc i < first_at ps p + count_at ps p → name_at ss i < name_at ss (suc i)
 

@@ -15,8 +15,8 @@ ghost use Rattle.showing.specs.Walking.{OneText};
 use crate::fault::ShowFault;
 use crate::source::Source;
 use kinds::kind::Kind;
-use records::Tables;
 use sheets::sheet::Sheet;
+use tokens::token::MOST_BYTES;
 use vocabulary::vocabulary::Vocabulary;
 
 pub mod fault;
@@ -26,9 +26,6 @@ mod writing;
 
 // The most places of a shown sheet that have a tag.
 const MOST_TAGS: usize = 99;
-
-// The most bytes of a shown text.
-const MOST_BYTES: usize = 60_000;
 
 // Writes the text of a sheet to the output, and answers how long it is.
 pub fn show<K: Kind, V: Vocabulary<K>>(
@@ -42,10 +39,7 @@ pub fn show<K: Kind, V: Vocabulary<K>>(
     if sheet.is_empty() {
         return Err(ShowFault::NoPlace);
     }
-    let source = Source::new(Tables {
-        places: sheet.places(),
-        slots: sheet.slots(),
-    });
+    let source = Source::new(sheet.tables());
     if source.count_tags() > MOST_TAGS {
         return Err(ShowFault::TooManyTags);
     }

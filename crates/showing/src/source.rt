@@ -10,7 +10,7 @@ use records::{MOST_PLACES, SlotRecord, Tables};
 
 // The tables hold a sheet, and `leading` says how many of its slots lead to each place.
 #[derive(Drop)]
-pub struct Source<'a, K: Kind> {
+pub(crate) struct Source<'a, K: Kind> {
     pub(crate) tables: Tables<'a, K::Form>,
     leading: [u16; MOST_PLACES],
     ghost sheet: { ∥ IsSheet tables.places.now tables.slots.now ∥₁ },

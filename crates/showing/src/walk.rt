@@ -18,7 +18,7 @@ use vocabulary::vocabulary::Vocabulary;
 // each place was written, and none where it was not (a place without a tag of its own has the next one, and is not met again); and
 // the tag that the next tagged place gets.
 #[derive(Drop)]
-pub struct Progress<'a> {
+struct Progress<'a> {
     left: ArrayVec<&'a [SlotRecord], MOST_PLACES>,
     tags: [Option<u16>; MOST_PLACES],
     next: u16,
@@ -37,6 +37,7 @@ impl<'a> Progress<'a> {
     }
 
     // Opens a place that was not written.
+    // `Room` stays a requirement, here and where a place is opened: a full progress is one too, so the type cannot promise it.
     fn enter(&mut self, p: u16, slots: &'a [SlotRecord], tagged: bool)
         requires { Room self.old × (p < 1000) }
         ensures { Entered self.old p slots.now tagged self.new }
@@ -59,6 +60,8 @@ impl<'a> Progress<'a> {
     }
 }
 
+// The progress and the output stay two parameters: held in one struct, the caller's bytes lie one struct deeper, and of these the
+// proof of `write` then learns nothing.
 impl<'a, K: Kind> Source<'a, K> {
     // Opens a place that was not written, and writes it up to its first slot.
     fn open_place<V: Vocabulary<K>>(

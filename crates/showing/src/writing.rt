@@ -15,7 +15,7 @@ use vocabulary::vocabulary::{KindText, Vocabulary};
 
 // The bytes that are written to, and how long the text is.
 #[derive(Drop)]
-pub struct Output<'a> {
+pub(crate) struct Output<'a> {
     bytes: &'a mut [u8],
     pub(crate) len: usize,
 }

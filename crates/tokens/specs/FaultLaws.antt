@@ -1,6 +1,6 @@
 -- Each fault of text has a number of a layer, shown. (A proof, and nothing that a reader has to believe: it stands here because the
 -- trait of faults takes it as a ghost member.)
-use Rattle.std.proofs.Common.{inl, inr, arith}
+use Rattle.std.proofs.Common.{inl, arith}
 use Rattle.faults.specs.Layers.{InSomeLayer}
 use Rattle.tokens.specs.declared.fault.TextFault.{TextFault}
 use Rattle.tokens.specs.declared.fault.TextFault.TheVariants.{LongLine, NoToken, LongWord, WrongNumber}

@@ -12,7 +12,7 @@ mod class;
 mod numeral;
 
 // The most bytes of a line.
-const LINE_LIMIT: usize = 60_000;
+pub const MOST_BYTES: usize = 60_000;
 
 // The most bytes of a word.
 const WORD_LIMIT: usize = 24;
@@ -43,7 +43,7 @@ pub struct Lexeme<'a> {
 pub fn checked_length(line: &[u8]) -> Result<(), TextFault>
     ensures { Checked line.now result }
 {
-    if line.len() > LINE_LIMIT {
+    if line.len() > MOST_BYTES {
         return Err(TextFault::LongLine);
     }
     Ok(())

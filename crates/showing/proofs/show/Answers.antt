@@ -20,9 +20,9 @@ returns-then-is_empty g c = record {
 pub new-source-requires : goal.new-source-requires
 new-source-requires g c =
     let sheet : IsSheet (shown_places c.args.sheet.now) (shown_slots c.args.sheet.now) = c.if-is_empty.ensures in
-    let ep = sym c.places.ensures in
-    let es = sym c.slots.ensures in
-    subst (λ (l : List SlotRecord). IsSheet c.places.result.now l) es (subst (λ (l : List (PlaceRecord g.row.K-Form.Denot)). IsSheet l (shown_slots c.args.sheet.now)) ep sheet)
+    let ep = sym c.tables.ensures.places in
+    let es = sym c.tables.ensures.slots in
+    subst (λ (l : List SlotRecord). IsSheet c.tables.result.places.now l) es (subst (λ (l : List (PlaceRecord g.row.K-Form.Denot)). IsSheet l (shown_slots c.args.sheet.now)) ep sheet)
 
 pub returns-then-count_tags-gt-MOST_TAGS : goal.returns-then-count_tags-gt-MOST_TAGS
 returns-then-count_tags-gt-MOST_TAGS g c =
@@ -30,7 +30,7 @@ returns-then-count_tags-gt-MOST_TAGS g c =
     let texts = g.V.Vocabulary.texts in
     let view = c.args.sheet.now in
     let s = sheet_of laws (shown_places view) (shown_slots view) in
-    let n : c.count_tags.result ≡ tags s = c.count_tags.ensures ∙ tags_are laws texts (c.new-source.ensures.places ∙ c.places.ensures) (c.new-source.ensures.slots ∙ c.slots.ensures) in
+    let n : c.count_tags.result ≡ tags s = c.count_tags.ensures ∙ tags_are laws texts (c.new-source.ensures.places ∙ c.tables.ensures.places) (c.new-source.ensures.slots ∙ c.tables.ensures.slots) in
     record {
       answer = inr (not_nothing view c.if-is_empty.ensures, inl (omega (arith, c.if-count_tags-gt-MOST_TAGS.true), refl));
       leaves = refl;
@@ -44,8 +44,8 @@ returns-then-length-gt-MOST_BYTES g c =
     let view = c.args.sheet.now in
     let s = sheet_of laws (shown_places view) (shown_slots view) in
     let sheet : IsSheet (shown_places view) (shown_slots view) = c.if-is_empty.ensures in
-    let ep = c.new-source.ensures.places ∙ c.places.ensures in
-    let es = c.new-source.ensures.slots ∙ c.slots.ensures in
+    let ep = c.new-source.ensures.places ∙ c.tables.ensures.places in
+    let es = c.new-source.ensures.slots ∙ c.tables.ensures.slots in
     let n : c.count_tags.result ≡ tags s = c.count_tags.ensures ∙ tags_are laws texts ep es in
     let measured = wrote_of laws texts ep es c.write-length.ensures in
     let long : min 60000 (length c.args.out.now) < c.write-length.result =
@@ -66,8 +66,8 @@ returns g c =
     let view = c.args.sheet.now in
     let s = sheet_of laws (shown_places view) (shown_slots view) in
     let sheet : IsSheet (shown_places view) (shown_slots view) = c.if-is_empty.ensures in
-    let ep = c.new-source.ensures.places ∙ c.places.ensures in
-    let es = c.new-source.ensures.slots ∙ c.slots.ensures in
+    let ep = c.new-source.ensures.places ∙ c.tables.ensures.places in
+    let es = c.new-source.ensures.slots ∙ c.tables.ensures.slots in
     let n : c.count_tags.result ≡ tags s = c.count_tags.ensures ∙ tags_are laws texts ep es in
     let measured = wrote_of laws texts ep es c.write-length.ensures in
     let done = wrote_of laws texts ep es c.write.ensures in
