@@ -1,5 +1,4 @@
 // Joining what the slots force: where two joined places both have a slot of one name, its targets are joined, until no more follows.
-// The sides are one value; the links, which are written, go beside them, for the reason that the file of links gives.
 ghost use Rattle.std.specs.Prelude.{◌≡◌, ℕ, ◌+◌, ◌<◌, ◌≤◌, true, false, ◌↔◌, length};
 ghost use Rattle.records.specs.Tables.{Edge};
 ghost use Rattle.joining.specs.Forest.{Forest, Own, Same, Tells};

@@ -5,7 +5,7 @@ ghost use Rattle.std.specs.List.{range_with_len};
 use records::own_numbers;
 
 // Lent links, which are put back when the guard goes. A function makes it as `Links(links)` over its slice parameter, and lends
-// `guard.0` on.
+// `guard.0` to one function that does the work.
 pub struct Links<'a>(pub &'a mut [u16]);
 
 impl Drop for Links<'_> {

@@ -107,7 +107,7 @@ pub(crate) const MEETS: [[Option<Catalogue>; 16]; 16] = [
     ],
 ];
 
-// What a table of meets has for two kinds. The table is a parameter, so that this rests on its rule and not on its 256 entries.
+// What a table of meets has for two kinds.
 pub(crate) fn look_up(
     table: &[[Option<Catalogue>; 16]; 16],
     first: Catalogue,

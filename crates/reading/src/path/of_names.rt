@@ -4,16 +4,14 @@ ghost use Rattle.std.specs.Option.{option_map};
 ghost use Rattle.reading.specs.Paths.{named};
 
 use crate::path::Path;
-
-// The most names of a path.
-const NAMES: usize = 16;
+use records::MOST_NAMES;
 
 impl Path {
     pub(crate) fn empty() -> Path
         ensures { named result ≡ [] }
     {
         Path {
-            names: [0; NAMES],
+            names: [0; MOST_NAMES],
             len: 0,
         }
     }
@@ -30,7 +28,7 @@ impl Path {
         ensures { option_map named result ≡ (if nat_lt (length (named self)) 16 then Some (named self ++ (name ∷ [])) else None) }
     {
         let at = self.len;
-        if at >= NAMES {
+        if at >= MOST_NAMES {
             return None;
         }
         let mut names = self.names;
