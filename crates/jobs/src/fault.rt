@@ -2,9 +2,10 @@
 ghost use Rattle.std.specs.Prelude.{◌≡◌};
 ghost use Rattle.jobs.specs.Faults.{fault_number};
 ghost use Rattle.jobs.specs.FaultLaws.{fault_layered};
-ghost use Rattle.jobs.specs.declared.fault.JobFault.TheVariants.{Sheet};
+ghost use Rattle.jobs.specs.declared.fault.JobFault.TheVariants.{Clash, Sheet};
 
 use faults::Fault;
+use meets::Clash;
 use sheets::fault::SheetFault;
 
 // Why a call of a job was refused.
@@ -18,6 +19,14 @@ pub enum JobFault {
     Clash,
     // A refusal of the sheet layer.
     Sheet(SheetFault),
+}
+
+impl From<Clash> for JobFault {
+    ghost from_gives = { λ x y. y ≡ Clash };
+
+    fn from(_clash: Clash) -> JobFault {
+        JobFault::Clash
+    }
 }
 
 impl From<SheetFault> for JobFault {
