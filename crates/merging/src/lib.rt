@@ -19,6 +19,9 @@ use records::{Counts, PlaceRecord, SlotRecord, Tables, no_place, no_slot};
 use uniting::unite;
 
 // Blanks what is left of the standing sheet past the one that was written over it.
+// The two tables to write to are two parameters, here and below: as a struct of two `&mut` slices, each function would have to promise
+// besides that the same slices are lent still, and what a call does to a part of each table (as to `&mut work_places[..all_places]`)
+// could not be shown to be done to the table.
 fn blank_past<K: Kind>(
     places: &mut [PlaceRecord<K::Form>],
     slots: &mut [SlotRecord],
