@@ -25,7 +25,7 @@ impl From<Clash> for JobFault {
     ghost from_gives = { λ x y. y ≡ Clash };
 
     fn from(_clash: Clash) -> JobFault {
-        JobFault::Clash
+        Self::Clash
     }
 }
 
@@ -33,7 +33,7 @@ impl From<SheetFault> for JobFault {
     ghost from_gives = { λ x y. y ≡ Sheet x };
 
     fn from(fault: SheetFault) -> JobFault {
-        JobFault::Sheet(fault)
+        Self::Sheet(fault)
     }
 }
 
