@@ -2,8 +2,8 @@
 use Rattle.std.proofs.Common.{◌≡◌, ℕ, ◌+◌, ◌-◌, ◌<◌, ◌≤◌, List, ◌++◌, [], map, length, get_or, take, drop, set, replicate, sym, ap, ◌∙◌, append_assoc, arith, length-append}
 use lib.Seq.{paste}
 use borrow.Rule.Slice.PartMut.{put_mid}
-use Rattle.std.proofs.lemmas.List.{get_or-map, take_all, take_at, drop_all, drop_at, drop-drop, length-drop, length-replicate, append-nil}
-use Rattle.std.proofs.lemmas.List.Edits.{paste_none, paste_more, paste_all, fill_from_more}
+use Rattle.std.proofs.lemmas.List.{get_or-map, take_all, take_at, drop_all, drop_at, drop-drop, length-drop, append-nil}
+use Rattle.std.proofs.lemmas.List.Edits.{paste_more, paste_all, fill_from_more}
 
 module _ {A : Type 0} where
   -- one more element of the list s is written

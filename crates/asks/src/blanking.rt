@@ -7,6 +7,7 @@ pub fn blank_from<T: Copy>(records: &mut [T], from: usize, upto: usize, blank: T
     ensures { records.new ≡ take from records.old ++ replicate (upto - from) blank ++ drop (max from upto) records.old }
 {
     let from = from.min(upto);
+    // `fill` would ask for a clone that cannot fail, which `Copy` alone does not say.
     for record in &mut records[from..upto] {
         *record = blank;
     }

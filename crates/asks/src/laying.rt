@@ -22,12 +22,16 @@ fn copy_moved<T: Moved>(from: &[T], to: &mut [T], by: usize)
     requires fits { (k : ℕ) → k < length from.now → by + slice_index (map T.Moved.number from.now) k < 65536 }
     ensures { to.new ≡ map (T.Moved.behind by) from.now ++ drop (length from.now) to.old }
 {
+    // By an index: after a loop over a zip with `to.iter_mut()`, nothing is known of `to` but its length.
     for (i, record) in from.iter().enumerate() {
         to[i] = record.moved(by);
     }
 }
 
 // Draws the chain of a path at the front of two tables, as it is behind so many places and slots.
+// The two tables to write to are two parameters, here and below: as a struct of two `&mut` slices, each function would have to promise
+// besides that the same slices are lent still, and what a call does to a part of each table (as to `&mut slots[names..]`) could not
+// be shown to be done to the table.
 fn draw_chain<F: Copy>(
     path: &[u64],
     places: &mut [PlaceRecord<F>],
@@ -40,6 +44,7 @@ fn draw_chain<F: Copy>(
     ensures places { places.new ≡ map (moved_place behind.slots) (chain any path.now).places ++ drop (length path.now) places.old }
     ensures slots { slots.new ≡ map (moved_slot behind.places) (chain any path.now).slots ++ drop (length path.now) slots.old }
 {
+    // By an index: after a loop over a zip with the `iter_mut()` of both tables, nothing is known of them but their lengths.
     for (i, name) in path.iter().enumerate() {
         places[i] = PlaceRecord {
             kind: any,

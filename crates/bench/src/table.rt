@@ -1,6 +1,7 @@
 // The sheets that are measured, of places of the greatest kind.
 ghost use Rattle.std.specs.Prelude.{◌≡◌, ◌<◌, ◌≤◌, IfOk, Some};
 ghost use Rattle.names.specs.Names.{NumberOf};
+ghost use Rattle.sheets.specs.Shown.{shown_places, shown_slots};
 
 use anyhow::{Context, anyhow};
 use kinds::catalogue::Catalogue;
@@ -12,9 +13,9 @@ use std::alloc::Global;
 
 // A sheet as it is put together, place by place. (Its like in the program `join` cannot be shared: library crates have no heap.)
 #[derive(Drop)]
-pub struct Table {
-    pub places: Vec<PlaceRecord<u8>>,
-    pub slots: Vec<SlotRecord>,
+pub(crate) struct Table {
+    places: Vec<PlaceRecord<u8>>,
+    slots: Vec<SlotRecord>,
 }
 
 // A slot of a name.
@@ -49,7 +50,9 @@ impl Table {
     }
 
     // The sheet that the records are.
-    pub fn sheet(&self) -> anyhow::Result<Sheet<'_, Catalogue>> {
+    pub(crate) fn sheet(&self) -> anyhow::Result<Sheet<'_, Catalogue>>
+        ensures { IfOk result (λ sheet. (shown_places sheet ≡ self.now.places.items) × (shown_slots sheet ≡ self.now.slots.items)) }
+    {
         let tables = Tables {
             places: &self.places,
             slots: &self.slots,
@@ -70,7 +73,7 @@ fn within(number: u16, n: u16) -> u16
 }
 
 // Each place leads to two more as long as there are any, and then back to the root; and each leads to itself.
-pub fn tree(heap: Global, n: u16) -> anyhow::Result<Table> {
+pub(crate) fn tree(heap: Global, n: u16) -> anyhow::Result<Table> {
     let mut table = Table::new(heap);
     for p in 0..n {
         let left = p.saturating_mul(2).saturating_add(1);
@@ -85,7 +88,7 @@ pub fn tree(heap: Global, n: u16) -> anyhow::Result<Table> {
 }
 
 // Each place leads to the next.
-pub fn chain(heap: Global, n: u16) -> anyhow::Result<Table> {
+pub(crate) fn chain(heap: Global, n: u16) -> anyhow::Result<Table> {
     let mut table = Table::new(heap);
     for p in 1..n {
         table.place(&[slot("a", p)?])?;
@@ -95,14 +98,14 @@ pub fn chain(heap: Global, n: u16) -> anyhow::Result<Table> {
 }
 
 // One place that leads to itself.
-pub fn ring(heap: Global) -> anyhow::Result<Table> {
+pub(crate) fn ring(heap: Global) -> anyhow::Result<Table> {
     let mut table = Table::new(heap);
     table.place(&[slot("a", 0)?])?;
     Ok(table)
 }
 
 // Each place leads to the next and to the one before.
-pub fn chain_back(heap: Global, n: u16) -> anyhow::Result<Table> {
+pub(crate) fn chain_back(heap: Global, n: u16) -> anyhow::Result<Table> {
     let mut table = Table::new(heap);
     table.place(&[slot("a", 1)?])?;
     for next in 2..n {
@@ -114,7 +117,7 @@ pub fn chain_back(heap: Global, n: u16) -> anyhow::Result<Table> {
 
 // Each place leads to the next, and the last leads back to itself: merged with the chain above, all places fold into one, from the
 // last to the first.
-pub fn chain_to_ring(heap: Global, n: u16) -> anyhow::Result<Table> {
+pub(crate) fn chain_to_ring(heap: Global, n: u16) -> anyhow::Result<Table> {
     let mut table = Table::new(heap);
     for p in 1..n {
         table.place(&[slot("a", p)?])?;

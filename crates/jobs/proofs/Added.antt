@@ -35,11 +35,10 @@ module _ {K F : Type 0} {g : Ghosts K F} (j : Job K F g) where
 module _ {K F : Type 0} {below : K → K → Type 0} {top : K} {form : K → F} {kind : F → Option K} (laws : KindLaws below top form kind)
     {g : Ghosts K F} (j : Job K F g) (path : List ℕ) (sheet : view.Sheet K F g) where
   -- what the merge answers of the tables that a sheet shows, it answers of the ask
-  pub asked_merge : {ps : List (PlaceRecord F)} {ss : List SlotRecord} {r o : Option Counts} (qs : List (PlaceRecord F)) (ts : List SlotRecord) → ps ≡ shown_places sheet → ss ≡ shown_slots sheet → r ≡ o
-      → Merges laws (standing_sheet laws j) (chained top path (sheet_of laws ps ss)) r qs ts → Merges laws (standing_sheet laws j) (ask_of laws path sheet) o qs ts
-  asked_merge {ps} {ss} {r} {o} qs ts at_places at_slots is m =
-      subst (λ (a : Option Counts). Merges laws (standing_sheet laws j) (ask_of laws path sheet) a qs ts) is
-      (subst (λ (t : records.Sheet K). Merges laws (standing_sheet laws j) t r qs ts) (λ i. chained top path (sheet_of laws (at_places i) (at_slots i))) m)
+  pub asked_merge : {ps : List (PlaceRecord F)} {ss : List SlotRecord} (r : Option Counts) (qs : List (PlaceRecord F)) (ts : List SlotRecord) → ps ≡ shown_places sheet → ss ≡ shown_slots sheet
+      → Merges laws (standing_sheet laws j) (chained top path (sheet_of laws ps ss)) r qs ts → Merges laws (standing_sheet laws j) (ask_of laws path sheet) r qs ts
+  asked_merge r qs ts at_places at_slots m =
+      subst (λ (t : records.Sheet K). Merges laws (standing_sheet laws j) t r qs ts) (λ i. chained top path (sheet_of laws (at_places i) (at_slots i))) m
 
   module _ (ready : Ready j path sheet) where
     standing : Formed (standing_sheet laws j)

@@ -1,6 +1,6 @@
 -- Each fault of a job has a number of a layer, shown. (A proof, and nothing that a reader has to believe: it stands here because the
 -- trait of faults takes it as a ghost member.)
-use Rattle.std.proofs.Common.{inl, inr, arith}
+use Rattle.std.proofs.Common.{inr, arith}
 use Rattle.faults.specs.Layers.{InSomeLayer}
 use Rattle.sheets.specs.FaultLaws as sheet
 use Rattle.jobs.specs.declared.fault.JobFault.{JobFault}

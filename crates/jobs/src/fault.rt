@@ -2,9 +2,10 @@
 ghost use Rattle.std.specs.Prelude.{◌≡◌};
 ghost use Rattle.jobs.specs.Faults.{fault_number};
 ghost use Rattle.jobs.specs.FaultLaws.{fault_layered};
-ghost use Rattle.jobs.specs.declared.fault.JobFault.TheVariants.{Sheet};
+ghost use Rattle.jobs.specs.declared.fault.JobFault.TheVariants.{Clash, Sheet};
 
 use faults::Fault;
+use meets::Clash;
 use sheets::fault::SheetFault;
 
 // Why a call of a job was refused.
@@ -20,11 +21,19 @@ pub enum JobFault {
     Sheet(SheetFault),
 }
 
+impl From<Clash> for JobFault {
+    ghost from_gives = { λ x y. y ≡ Clash };
+
+    fn from(_clash: Clash) -> JobFault {
+        Self::Clash
+    }
+}
+
 impl From<SheetFault> for JobFault {
     ghost from_gives = { λ x y. y ≡ Sheet x };
 
     fn from(fault: SheetFault) -> JobFault {
-        JobFault::Sheet(fault)
+        Self::Sheet(fault)
     }
 }
 

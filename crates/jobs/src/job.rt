@@ -15,6 +15,7 @@ const MOST_SHELF_SLOTS: usize = 32000;
 
 // The numbers of a job: the most places and slots that its sheet can have, and how many its standing sheet has. A job that was
 // never opened, or has no room for a place, has a limit of 0 places.
+// (One number for both, and no Option: a job that was never opened must behave as one with no room for a place.)
 #[derive(Drop)]
 pub struct State {
     limits: Counts,

@@ -1,4 +1,5 @@
--- How a kind and a reply are printed.
+-- How a kind and a reply are printed. What the program prints of a kind is written out here in its own words, and that it is what the
+-- kind's type prints is proved.
 use Rattle.std.specs.Prelude.{ℕ, List, ◌++◌, Ok, Err, codes, decimal, Result}
 use Rattle.std.specs.Fmt.{signed_decimal}
 use Rattle.kinds.specs.declared.catalogue.Catalogue.{Catalogue}

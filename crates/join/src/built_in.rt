@@ -13,7 +13,7 @@ fn volts(low: i32, high: i32) -> anyhow::Result<OrderKind> {
 }
 
 // (any north (outside_striker volts ([24..48])) south (striking volts ([12..24])))
-pub fn strikers(heap: Global) -> anyhow::Result<Draft> {
+pub(crate) fn strikers(heap: Global) -> anyhow::Result<Draft> {
     let mut draft = Draft::new(heap);
     draft.place(Either::Any, &[("north", 1), ("south", 2)])?;
     draft.place(Either::First(Catalogue::OutsideStriker), &[("volts", 3)])?;
@@ -24,7 +24,7 @@ pub fn strikers(heap: Global) -> anyhow::Result<Draft> {
 }
 
 // (any north (any volts (#1 any)) south (any volts (#1)))
-pub fn tied_volts(heap: Global) -> anyhow::Result<Draft> {
+pub(crate) fn tied_volts(heap: Global) -> anyhow::Result<Draft> {
     let mut draft = Draft::new(heap);
     draft.place(Either::Any, &[("north", 1), ("south", 2)])?;
     draft.place(Either::Any, &[("volts", 3)])?;

@@ -1,6 +1,7 @@
 // A sheet as it is put together, place by place, with its names given as words.
-ghost use Rattle.std.specs.Prelude.{IfOk, Some};
+ghost use Rattle.std.specs.Prelude.{◌≡◌, IfOk, Some};
 ghost use Rattle.names.specs.Names.{NumberOf};
+ghost use Rattle.sheets.specs.Shown.{shown_places, shown_slots};
 
 use anyhow::{Context, anyhow};
 use either_kind::either::{Either, EitherForm};
@@ -13,15 +14,15 @@ use sheets::sheet::Sheet;
 use std::alloc::Global;
 
 // The kinds of the program: a kind of the catalogue, a range, or any.
-pub type OrderKind = Either<Catalogue, Range>;
+pub(crate) type OrderKind = Either<Catalogue, Range>;
 
-pub type OrderPlace = PlaceRecord<EitherForm<u8, RangeForm>>;
+pub(crate) type OrderPlace = PlaceRecord<EitherForm<u8, RangeForm>>;
 
 // The records of the places and of the slots so far.
 #[derive(Drop)]
-pub struct Draft {
-    pub places: Vec<OrderPlace>,
-    pub slots: Vec<SlotRecord>,
+pub(crate) struct Draft {
+    places: Vec<OrderPlace>,
+    slots: Vec<SlotRecord>,
 }
 
 // The number of a name.
@@ -32,7 +33,7 @@ fn name_of(word: &str) -> anyhow::Result<u64>
 }
 
 // The numbers of the names of a path.
-pub fn path_of(heap: Global, words: &[&str]) -> anyhow::Result<Vec<u64>> {
+pub(crate) fn path_of(heap: Global, words: &[&str]) -> anyhow::Result<Vec<u64>> {
     let mut path = Vec::new(heap);
     for word in words {
         path.push(name_of(word)?)?;
@@ -41,7 +42,7 @@ pub fn path_of(heap: Global, words: &[&str]) -> anyhow::Result<Vec<u64>> {
 }
 
 impl Draft {
-    pub fn new(heap: Global) -> Draft {
+    pub(crate) fn new(heap: Global) -> Draft {
         Draft {
             places: Vec::new(heap),
             slots: Vec::new(heap),
@@ -49,7 +50,7 @@ impl Draft {
     }
 
     // A sheet of one place.
-    pub fn of_kind(heap: Global, kind: OrderKind) -> anyhow::Result<Draft> {
+    pub(crate) fn of_kind(heap: Global, kind: OrderKind) -> anyhow::Result<Draft> {
         let mut draft = Draft::new(heap);
         draft.leaf(kind)?;
         Ok(draft)
@@ -68,12 +69,12 @@ impl Draft {
     }
 
     // Puts a place without slots behind the others.
-    pub fn leaf(&mut self, kind: OrderKind) -> anyhow::Result<()> {
+    pub(crate) fn leaf(&mut self, kind: OrderKind) -> anyhow::Result<()> {
         self.begin(kind, 0)
     }
 
     // Puts a place behind the others. Each slot is a name and the number of the place that it leads to.
-    pub fn place(&mut self, kind: OrderKind, slots: &[(&str, u16)]) -> anyhow::Result<()> {
+    pub(crate) fn place(&mut self, kind: OrderKind, slots: &[(&str, u16)]) -> anyhow::Result<()> {
         self.begin(kind, slots.len())?;
         for (word, target) in slots {
             self.slots.push(SlotRecord {
@@ -85,7 +86,9 @@ impl Draft {
     }
 
     // The sheet that the records are.
-    pub fn sheet(&self) -> anyhow::Result<Sheet<'_, OrderKind>> {
+    pub(crate) fn sheet(&self) -> anyhow::Result<Sheet<'_, OrderKind>>
+        ensures { IfOk result (λ sheet. (shown_places sheet ≡ self.now.places.items) × (shown_slots sheet ≡ self.now.slots.items)) }
+    {
         let tables = Tables {
             places: &self.places,
             slots: &self.slots,

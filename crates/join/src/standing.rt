@@ -31,7 +31,7 @@ fn print_slots(rt: &HostRuntime, slots: &[SlotRecord]) -> anyhow::Result<()> {
 }
 
 // Prints a row for each place of the standing sheet.
-pub fn print_standing(rt: &HostRuntime, job: &Job<'_, OrderKind>) -> anyhow::Result<()> {
+pub(crate) fn print_standing(rt: &HostRuntime, job: &Job<'_, OrderKind>) -> anyhow::Result<()> {
     println!(rt; "{:<7}{:<17}{}", "place", "kind", "slots")?;
     let places: &[OrderPlace] = job.places;
     let slots: &[SlotRecord] = job.slots;

@@ -10,7 +10,7 @@ use std::alloc::{AllocError, Global};
 use std::fmt;
 
 // A kind as sheets spell it: a word, a range in brackets, or `any`.
-pub fn kind_text(heap: Global, kind: OrderKind) -> Result<String, AllocError>
+pub(crate) fn kind_text(heap: Global, kind: OrderKind) -> Result<String, AllocError>
     ensures { IfOk result (λ s. string_bytes s ≡ kind_text kind) }
 {
     kind.to_string(heap)
@@ -18,7 +18,7 @@ pub fn kind_text(heap: Global, kind: OrderKind) -> Result<String, AllocError>
 
 // The reply to a step: how many places and slots stand, or why the step was refused.
 #[derive(Clone, Copy)]
-pub struct Reply(pub Result<Counts, JobFault>);
+pub(crate) struct Reply(pub(crate) Result<Counts, JobFault>);
 
 impl fmt::Display for Reply {
     ghost output = { λ reply. Some (reply_text reply.0) };

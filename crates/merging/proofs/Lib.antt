@@ -1,3 +1,2 @@
 pub mod Classing
-pub mod Outcomes
 pub mod Tables

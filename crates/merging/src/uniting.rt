@@ -2,13 +2,14 @@
 // canonical numbering. The links are held by a guard, which puts them back whichever way this ends.
 ghost use Rattle.std.specs.Prelude.{◌≡◌, ℕ, ◌<◌, ◌≤◌, length, slice_index};
 ghost use Rattle.std.specs.List.{range_with_len};
+ghost use Rattle.std.specs.Result.{result_ok};
 ghost use Rattle.joining.specs.Forest.{Forest, Own, end};
 ghost use Rattle.joining.specs.Two.{Two};
 ghost use Rattle.merging.specs.United.{United, UnitedPlaces, UnitedSlots};
 
 use joining::{Links, end_of, join_roots};
 use kinds::kind::Kind;
-use meets::meet_classes;
+use meets::{Clash, meet_classes};
 use numbering::number;
 use records::{Counts, MOST_PLACES, PlaceRecord, SlotRecord, Tables};
 
@@ -23,8 +24,8 @@ fn flatten(links: &[u16], ends: &mut [u16])
     }
 }
 
-// Writes the merge of two sheets side by side, the second from the place `second` on, and answers its counts; or answers none where
-// they clash, and leaves the tables to write to as they were.
+// Writes the merge of two sheets side by side, the second from the place `second` on, and answers its counts; or says that they
+// clash, and leaves the tables to write to as they were.
 pub(crate) fn unite<K: Kind>(
     work_places: &mut [PlaceRecord<K::Form>],
     work_slots: &[SlotRecord],
@@ -32,14 +33,14 @@ pub(crate) fn unite<K: Kind>(
     second: usize,
     places: &mut [PlaceRecord<K::Form>],
     slots: &mut [SlotRecord],
-) -> Option<Counts>
+) -> Result<Counts, Clash>
     requires two { Two work_places.old work_slots.now second }
     requires own { Own links.old }
     requires work { (length work_places.old ≡ length links.old) × ((length work_places.old ≤ 1000) × (length work_slots.now ≤ 4000)) }
     requires output { (length work_places.old ≤ length places.old) × (length work_slots.now ≤ length slots.old) }
-    ensures answer { (two : Two work_places.old work_slots.now second) → United K.Kind.laws two.s two.t result places.new slots.new }
-    ensures places { UnitedPlaces (length work_places.old) result places.old places.new }
-    ensures slots { UnitedSlots (length work_slots.now) result slots.old slots.new }
+    ensures answer { (two : Two work_places.old work_slots.now second) → United K.Kind.laws two.s two.t (result_ok result) places.new slots.new }
+    ensures places { UnitedPlaces (length work_places.old) (result_ok result) places.old places.new }
+    ensures slots { UnitedSlots (length work_slots.now) (result_ok result) slots.old slots.new }
     ensures links { links.new ≡ range_with_len 0 (length links.old) }
 {
     let guard = Links(links);
@@ -50,10 +51,10 @@ pub(crate) fn unite<K: Kind>(
     join_roots(sides, guard.0, second);
     let mut ends = [0u16; MOST_PLACES];
     flatten(guard.0, &mut ends);
-    meet_classes::<K>(work_places, &ends).ok()?;
+    meet_classes::<K>(work_places, &ends)?;
     let merged = Tables {
         places: work_places,
         slots: work_slots,
     };
-    Some(number(merged, &ends, places, slots))
+    Ok(number(merged, &ends, places, slots))
 }

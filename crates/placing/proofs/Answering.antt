@@ -12,12 +12,12 @@ use Rattle.reading.specs.Faults.{number_of, byte_of}
 use Rattle.reading.specs.declared.draft.Cursor.{Cursor}
 use Rattle.reading.specs.declared.draft.Place.{Place}
 use Rattle.reading.specs.declared.draft.Slot.{Slot}
-use Rattle.reading.specs.Answers.{draft, refused}
+use Rattle.reading.specs.Answers.{draft}
 use Rattle.reading.specs.Steps.{Step, go, fault, on_some, read_place}
 use Rattle.reading.specs.Meaning.{IsSheetOf}
 use Rattle.placing.specs.Arranged.{Sound, drafted}
 use Rattle.placing.specs.Reading.{SheetRead, ReadAs, places_read, slots_read}
-use Rattle.placing.proofs.Soundness.{read_sound, refusal_numbered}
+use Rattle.placing.proofs.Soundness.{read_sound}
 use Rattle.placing.proofs.Arrangement.{sound_plain}
 use Rattle.placing.proofs.Sheeting.{read_back}
 

@@ -105,10 +105,6 @@ near_more : (n m : ℕ) (t : Target) → n ≤ m → Near n t → Near m t
 near_more n m (To p) le h = omega arith
 near_more n m (ByTag t) le h = tt
 
-placed_near : (n : ℕ) (t : Target) → Placed n t → Near n t
-placed_near n (To p) h = omega arith
-placed_near n (ByTag t) h = tt
-
 abbrev TagFits : ℕ → Type 0
 TagFits n = (1 ≤ n) × (n ≤ 99)
 

@@ -6,48 +6,47 @@ ghost use Rattle.reading.specs.Steps.{read_place};
 ghost use Rattle.placing.specs.Arranged.{Sound, drafted};
 ghost use Rattle.placing.specs.Reading.{ReadAs, ReadInto, SheetRead, blank_draft, places_read, room, slots_read, worked};
 
-use crate::arranging::arrange;
+use crate::arranging::{Draft, arrange};
 use crate::blanking::blank_past;
 use kinds::kind::Kind;
 use reading::draft::{Place, Slot, Target};
 use reading::drafting::read_draft;
 use reading::fault::ReadFault;
-use records::{Counts, MOST_PLACES, MOST_SLOTS, PlaceRecord, SlotRecord, Tables, no_place, no_slot};
+use records::{
+    Counts, MOST_PLACES, MOST_SLOTS, PlaceRecord, SlotRecord, Tables, no_place, no_slot,
+};
 use renumbering::renumber;
 use vocabulary::vocabulary::Vocabulary;
 
 // Writes the sheet that a draft describes, and answers its counts.
+// The two tables to write to are two parameters, here and below: as a struct of two `&mut` slices, each function would have to promise
+// besides that the same slices are lent still, and what a call does to a part of each table (as to `&mut work_places[..n]`) could not
+// be shown to be done to the table.
 fn write_sheet<K: Kind>(
-    draft_places: &[Place<K>],
-    draft_slots: &[Slot],
+    draft: Draft<'_, K>,
     places: &mut [PlaceRecord<K::Form>],
     slots: &mut [SlotRecord],
     work_places: &mut [PlaceRecord<K::Form>],
     work_slots: &mut [SlotRecord],
 ) -> Counts
-    requires sound { Sound (drafted draft_places.now draft_slots.now) }
-    requires places { (length draft_places.now ≤ 1000) × ((length draft_places.now ≤ length places.old) × (length draft_places.now ≤ length work_places.old)) }
-    requires slots { (length draft_slots.now ≤ 4000) × ((length draft_slots.now ≤ length slots.old) × (length draft_slots.now ≤ length work_slots.old)) }
-    ensures counts { (result.places ≡ length draft_places.now) × (result.slots ≡ length draft_slots.now) }
-    ensures sheet { SheetRead K.Kind.laws (drafted draft_places.now draft_slots.now) result places.new slots.new }
+    requires sound { Sound (drafted draft.places.now draft.slots.now) }
+    requires places { (length draft.places.now ≤ 1000) × ((length draft.places.now ≤ length places.old) × (length draft.places.now ≤ length work_places.old)) }
+    requires slots { (length draft.slots.now ≤ 4000) × ((length draft.slots.now ≤ length slots.old) × (length draft.slots.now ≤ length work_slots.old)) }
+    ensures counts { (result.places ≡ length draft.entry.places.now) × (result.slots ≡ length draft.entry.slots.now) }
+    ensures sheet { SheetRead K.Kind.laws (drafted draft.entry.places.now draft.entry.slots.now) result places.new slots.new }
     ensures places { drop result.places places.new ≡ drop result.places places.old }
     ensures slots { drop result.slots slots.new ≡ drop result.slots slots.old }
     ensures work_places { drop 1000 work_places.new ≡ drop 1000 work_places.old }
     ensures work_slots { drop 4000 work_slots.new ≡ drop 4000 work_slots.old }
 {
-    let n = draft_places.len();
-    let m = draft_slots.len();
-    arrange::<K>(
-        draft_places,
-        draft_slots,
-        &mut work_places[..n],
-        &mut work_slots[..m],
-    );
-    let draft = Tables {
+    let n = draft.places.len();
+    let m = draft.slots.len();
+    arrange::<K>(draft, &mut work_places[..n], &mut work_slots[..m]);
+    let arranged = Tables {
         places: &work_places[..n],
         slots: &work_slots[..m],
     };
-    renumber(draft, places, slots).unwrap()
+    renumber(arranged, places, slots).unwrap()
 }
 
 // Reads a line, with tables for its draft: they say how many places and slots it may have.
@@ -70,16 +69,11 @@ fn read_with<K: Kind, V: Vocabulary<K>>(
     ensures work_slots { drop 4000 work_slots.new ≡ drop 4000 work_slots.old }
 {
     let cursor = read_draft::<K, V>(line, draft_places, draft_slots)?;
-    let n = cursor.places;
-    let m = cursor.slots;
-    Ok(write_sheet::<K>(
-        &draft_places[..n],
-        &draft_slots[..m],
-        places,
-        slots,
-        work_places,
-        work_slots,
-    ))
+    let draft = Draft {
+        places: &draft_places[..cursor.places],
+        slots: &draft_slots[..cursor.slots],
+    };
+    Ok(write_sheet::<K>(draft, places, slots, work_places, work_slots))
 }
 
 // The draft of no place: the greatest kind, and no tag.
@@ -93,6 +87,17 @@ fn no_draft<K: Kind>() -> Place<K>
     }
 }
 
+// A table for the slots of a draft.
+fn slot_drafts() -> [Slot; MOST_SLOTS]
+    ensures { length result ≡ 4000 }
+{
+    [Slot {
+        owner: 0,
+        name: 0,
+        target: Target::To(0),
+    }; MOST_SLOTS]
+}
+
 // How many places and slots were read.
 fn counts_read(read: Result<Counts, ReadFault>) -> Counts
     ensures places { result.places ≡ places_read read }
@@ -102,44 +107,6 @@ fn counts_read(read: Result<Counts, ReadFault>) -> Counts
         places: 0,
         slots: 0,
     })
-}
-
-// Reads a line as `read_place` does, with a table for the slots of its draft.
-fn read_blanked<K: Kind, V: Vocabulary<K>>(
-    line: &[u8],
-    places: &mut [PlaceRecord<K::Form>],
-    slots: &mut [SlotRecord],
-    work_places: &mut [PlaceRecord<K::Form>],
-    work_slots: &mut [SlotRecord],
-    drafts: &mut [Place<K>],
-    named: &mut [Slot],
-) -> Result<Counts, ReadFault>
-    requires { length named.old ≡ 4000 }
-    ensures answer { ReadAs K.Kind.laws (read_place V.Vocabulary.words V.Vocabulary.ranges (room 1000 (length places.old) (min (length work_places.old) (length drafts.old))) (room 4000 (length slots.old) (length work_slots.old)) line.now) result places.new slots.new }
-    ensures places { ReadInto (blank_place K.Kind.laws) 1000 (places_read result) places.old places.new }
-    ensures slots { ReadInto blank_slot 4000 (slots_read result) slots.old slots.new }
-    ensures work_places { work_places.new ≡ worked (blank_place K.Kind.laws) 1000 work_places.old }
-    ensures work_slots { work_slots.new ≡ worked blank_slot 4000 work_slots.old }
-    ensures drafts { drafts.new ≡ worked (blank_draft K.Kind.top) 1000 drafts.old }
-{
-    let most_places = MOST_PLACES.min(places.len().min(work_places.len().min(drafts.len())));
-    let most_slots = MOST_SLOTS.min(slots.len().min(work_slots.len()));
-    let read = read_with::<K, V>(
-        line,
-        &mut drafts[..most_places],
-        &mut named[..most_slots],
-        places,
-        slots,
-        work_places,
-        work_slots,
-    );
-    let counts = counts_read(read);
-    blank_past(places, counts.places, MOST_PLACES, no_place::<K>());
-    blank_past(slots, counts.slots, MOST_SLOTS, no_slot());
-    blank_past(work_places, 0, MOST_PLACES, no_place::<K>());
-    blank_past(work_slots, 0, MOST_SLOTS, no_slot());
-    blank_past(drafts, 0, MOST_PLACES, no_draft::<K>());
-    read
 }
 
 // Reads a line of one place into the tables, and answers the counts of its sheet, or a refusal. A sheet has no more places and slots
@@ -159,18 +126,23 @@ pub fn read_place<K: Kind, V: Vocabulary<K>>(
     ensures work_slots { work_slots.new ≡ worked blank_slot 4000 work_slots.old }
     ensures drafts { drafts.new ≡ worked (blank_draft K.Kind.top) 1000 drafts.old }
 {
-    let mut named = [Slot {
-        owner: 0,
-        name: 0,
-        target: Target::To(0),
-    }; MOST_SLOTS];
-    read_blanked::<K, V>(
+    let mut named = slot_drafts();
+    let most_places = MOST_PLACES.min(places.len().min(work_places.len().min(drafts.len())));
+    let most_slots = MOST_SLOTS.min(slots.len().min(work_slots.len()));
+    let read = read_with::<K, V>(
         line,
+        &mut drafts[..most_places],
+        &mut named[..most_slots],
         places,
         slots,
         work_places,
         work_slots,
-        drafts,
-        &mut named,
-    )
+    );
+    let counts = counts_read(read);
+    blank_past(places, counts.places, MOST_PLACES, no_place::<K>());
+    blank_past(slots, counts.slots, MOST_SLOTS, no_slot());
+    blank_past(work_places, 0, MOST_PLACES, no_place::<K>());
+    blank_past(work_slots, 0, MOST_SLOTS, no_slot());
+    blank_past(drafts, 0, MOST_PLACES, no_draft::<K>());
+    read
 }

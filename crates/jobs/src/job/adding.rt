@@ -63,9 +63,7 @@ impl<'a, K: Kind> Job<'a, K> {
         }
         Ok(())
     }
-}
 
-impl<'a, K: Kind> Job<'a, K> {
     // Puts the merge of the standing sheet and the add of a sheet at a path in the standing sheet's place, and answers its counts.
     pub fn add(&mut self, path: &[u64], sheet: &Sheet<'_, K>) -> Result<Counts, JobFault>
         ensures answer { Answered (add_checks self.old path.now sheet.now (Clash K.Kind.laws (standing_sheet K.Kind.laws self.old) (ask_of K.Kind.laws path.now sheet.now))) (refusal fault_number result) }
@@ -81,7 +79,7 @@ impl<'a, K: Kind> Job<'a, K> {
             places: sheet.places(),
             slots: sheet.slots(),
         };
-        let made = merge::<K>(
+        let counts = merge::<K>(
             self.places,
             self.slots,
             self.state.standing,
@@ -90,8 +88,7 @@ impl<'a, K: Kind> Job<'a, K> {
             self.work_places,
             self.work_slots,
             self.links,
-        );
-        let counts = made.ok_or(JobFault::Clash)?;
+        )?;
         self.state.standing = counts;
         Ok(counts)
     }

@@ -71,9 +71,7 @@ impl<'a, K: Kind> Job<'a, K> {
     {
         self.state.standing
     }
-}
 
-impl<'a, K: Kind> Job<'a, K> {
     // Begins a new job on the tables, whatever they held: the blank sheet stands. With no room for a place nothing is written.
     pub fn open(&mut self)
         ensures limits { (place_limit self.new ≡ place_room self.old) × (slot_limit self.new ≡ slot_room self.old) }

@@ -4,6 +4,7 @@ use Rattle.joining.specs.Two.{Two}
 use Rattle.asks.specs.Asks.{chained}
 use Rattle.asks.proofs.Adds.{add_formed}
 use Rattle.asks.proofs.Reading.{add_read}
+use Rattle.std.specs.Result.{result_ok}
 use Rattle.merging.specs.Core.{Merges}
 use Rattle.merging.proofs.Tables.{merged_holds, places_after, slots_after, own_front, links_back, laid_beside}
 use Rattle.merging.proofs.merge.Goals as goal
@@ -56,12 +57,12 @@ returns-clause-answer g c =
           c.requires.counted.0 c.requires.counted.1 c.lay_beside.ensures.beside;
       from = simp length-take (omega arith);
     } in
-    let united : Merges laws (sheet_of laws standing.places standing.slots) (chained g.K.Kind.top path (sheet_of laws asked.places asked.slots)) c.unite-made.result c.unite-made.new.places c.unite-made.new.slots =
-    subst (λ (t : Sheet g.row.K.Denot). Merges laws (sheet_of laws standing.places standing.slots) t c.unite-made.result c.unite-made.new.places c.unite-made.new.slots)
+    let united : Merges laws (sheet_of laws standing.places standing.slots) (chained g.K.Kind.top path (sheet_of laws asked.places asked.slots)) (result_ok c.unite-made.result) c.unite-made.new.places c.unite-made.new.slots =
+    subst (λ (t : Sheet g.row.K.Denot). Merges laws (sheet_of laws standing.places standing.slots) t (result_ok c.unite-made.result) c.unite-made.new.places c.unite-made.new.slots)
     (add_read laws path asked) (c.unite-made.ensures.answer two) in
     merged_holds laws (sheet_of laws standing.places standing.slots) (chained g.K.Kind.top path (sheet_of laws asked.places asked.slots))
     c.args.standing.places c.args.standing.slots c.args.places.now c.unite-made.new.places c.blank_past.new.places
-    c.args.slots.now c.unite-made.new.slots c.blank_past.new.slots c.unite-made.result
+    c.args.slots.now c.unite-made.new.slots c.blank_past.new.slots (result_ok c.unite-made.result)
     (length (take n c.lay_beside.new.work_places)) (length (take m c.lay_beside.new.work_slots))
     (simp length-take (omega arith)) (simp length-take (omega arith))
     united c.unite-made.ensures.places c.unite-made.ensures.slots c.blank_past.ensures.places c.blank_past.ensures.slots
@@ -69,14 +70,14 @@ returns-clause-answer g c =
 pub returns-clause-places : goal.returns-clause-places
 returns-clause-places g c =
     let lp = c.lay_beside.ensures.places_length in
-    places_after (blank_place g.K.Kind.laws) c.args.standing.places c.args.places.now c.unite-made.new.places c.blank_past.new.places c.unite-made.result
+    places_after (blank_place g.K.Kind.laws) c.args.standing.places c.args.places.now c.unite-made.new.places c.blank_past.new.places (result_ok c.unite-made.result)
     (length (take (c.args.standing.places + length c.args.path.now + length c.args.asked.places.now) c.lay_beside.new.work_places)) (simp length-take (omega arith))
     c.unite-made.ensures.places c.blank_past.ensures.places
 
 pub returns-clause-slots : goal.returns-clause-slots
 returns-clause-slots g c =
     let ls = c.lay_beside.ensures.slots_length in
-    slots_after c.args.standing.slots c.args.slots.now c.unite-made.new.slots c.blank_past.new.slots c.unite-made.result
+    slots_after c.args.standing.slots c.args.slots.now c.unite-made.new.slots c.blank_past.new.slots (result_ok c.unite-made.result)
     (length (take (c.args.standing.slots + length c.args.path.now + length c.args.asked.slots.now) c.lay_beside.new.work_slots)) (simp length-take (omega arith))
     c.unite-made.ensures.slots c.blank_past.ensures.slots
 

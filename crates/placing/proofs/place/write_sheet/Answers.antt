@@ -17,8 +17,8 @@ fronts form d n m ps more ss others long wide h =
 
 pub unwrap-requires : goal.unwrap-requires
 unwrap-requires g c =
-    let dp = c.args.draft_places.now in
-    let ds = c.args.draft_slots.now in
+    let dp = c.args.draft.places.now in
+    let ds = c.args.draft.slots.now in
     let long : length c.arrange.new.places ≡ length dp = c.arrange.auto.places ∙ length-take-le (length dp) c.args.work_places.now c.requires.places.1.1 in
     let wide : length c.arrange.new.slots ≡ length ds = c.arrange.auto.slots ∙ length-take-le (length ds) c.args.work_slots.now c.requires.slots.1.1 in
     let a = fronts g.K.Kind.form (drafted dp ds) (length dp) (length ds) c.arrange.new.places (drop (length dp) c.args.work_places.now) c.arrange.new.slots (drop (length ds) c.args.work_slots.now) long wide c.arrange.ensures in
@@ -28,8 +28,8 @@ unwrap-requires g c =
 
 pub returns-clause-sheet : goal.returns-clause-sheet
 returns-clause-sheet g c =
-    let dp = c.args.draft_places.now in
-    let ds = c.args.draft_slots.now in
+    let dp = c.args.draft.places.now in
+    let ds = c.args.draft.slots.now in
     let wp = c.args.work_places.now in
     let ws = c.args.work_slots.now in
     let ap₁ = c.arrange.new.places in
@@ -52,10 +52,10 @@ returns-clause-sheet g c =
 
 pub returns-clause-work_places : goal.returns-clause-work_places
 returns-clause-work_places g c =
-    let n = length c.args.draft_places.now in
+    let n = length c.args.draft.places.now in
     drop-append-drop n c.args.work_places.now c.arrange.new.places 1000 c.requires.places.0 (c.arrange.auto.places ∙ length-take-le n c.args.work_places.now c.requires.places.1.1)
 
 pub returns-clause-work_slots : goal.returns-clause-work_slots
 returns-clause-work_slots g c =
-    let n = length c.args.draft_slots.now in
+    let n = length c.args.draft.slots.now in
     drop-append-drop n c.args.work_slots.now c.arrange.new.slots 4000 c.requires.slots.0 (c.arrange.auto.slots ∙ length-take-le n c.args.work_slots.now c.requires.slots.1.1)

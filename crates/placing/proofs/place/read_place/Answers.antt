@@ -6,12 +6,12 @@ use Rattle.reading.specs.Steps.{read_place}
 use Rattle.placing.specs.Reading.{ReadAs, room, places_read, slots_read, blank_draft}
 use Rattle.placing.proofs.Answering.{read_moved}
 use Rattle.placing.proofs.Clearing.{cleared_at, same_front, read_into, worked_blank}
-use Rattle.placing.proofs.place.read_blanked.Goals as goal
+use Rattle.placing.proofs.place.read_place.Goals as goal
 
 pub read_with-read-requires : goal.read_with-read-requires
 read_with-read-requires g c =
     let p = length-take c.min-most_places.result c.args.drafts.now in
-    let s = length-take c.min-most_slots.result c.args.named.now in
+    let s = length-take c.min-most_slots.result c.slot_drafts-named.result in
     let e₁ = c.min.ensures in
     let e₂ = c.min-2.ensures in
     let e₃ = c.min-most_places.ensures in
@@ -29,7 +29,7 @@ blank_past-requires g c =
 
 pub blank_past-requires-2 : goal.blank_past-requires-2
 blank_past-requires-2 g c =
-    let s = length-take c.min-most_slots.result c.args.named.now in
+    let s = length-take c.min-most_slots.result c.slot_drafts-named.result in
     let w = c.read_with-read.ensures.within.1 in
     let n = c.counts_read-counts.ensures.slots in
     let k = c.read_with-read.auto.slots in
@@ -45,7 +45,7 @@ returns g c =
     let P : ℕ = c.min-most_places.result in
     let S : ℕ = c.min-most_slots.result in
     let drafts = c.args.drafts.now in
-    let named = c.args.named.now in
+    let named = c.slot_drafts-named.result in
     let oldp = c.args.places.now in
     let olds = c.args.slots.now in
     let midp = c.read_with-read.new.places in
@@ -55,7 +55,7 @@ returns g c =
     let pl : ℕ = room 1000 (length oldp) (min (length c.args.work_places.now) (length drafts)) in
     let sl : ℕ = room 4000 (length olds) (length c.args.work_slots.now) in
     let ep : length (take P drafts) ≡ pl = omega (arith, length-take P drafts, c.min.ensures, c.min-2.ensures, c.min-most_places.ensures) in
-    let es : length (take S named) ≡ sl = omega (arith, length-take S named, c.requires, c.min-3.ensures, c.min-most_slots.ensures) in
+    let es : length (take S named) ≡ sl = omega (arith, length-take S named, c.slot_drafts-named.ensures, c.min-3.ensures, c.min-most_slots.ensures) in
     let h : ReadAs laws (read_place words ranges (length (take P drafts)) (length (take S named)) line) r midp mids = c.read_with-read.ensures.answer in
     let h₂ : ReadAs laws (read_place words ranges pl sl line) r midp mids =
     subst (λ n. ReadAs laws (read_place words ranges n sl line) r midp mids) ep (subst (λ m. ReadAs laws (read_place words ranges (length (take P drafts)) m line) r midp mids) es h) in
