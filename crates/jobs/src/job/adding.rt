@@ -13,12 +13,9 @@ use crate::fault::JobFault;
 use kinds::kind::Kind;
 use merging::merge;
 use names::spelling::of_number::is_name;
-use records::{Counts, Tables};
+use records::{Counts, MOST_NAMES};
 use sheets::fault::SheetFault;
 use sheets::sheet::Sheet;
-
-// The most names of a path.
-const MOST_NAMES: usize = 16;
 
 // Whether some number of a path is no name's.
 fn nameless(path: &[u64]) -> bool
@@ -75,16 +72,12 @@ impl<'a, K: Kind> Job<'a, K> {
         ensures lengths { SameLengths self.new self.old }
     {
         self.admit(path, sheet)?;
-        let asked = Tables {
-            places: sheet.places(),
-            slots: sheet.slots(),
-        };
         let counts = merge::<K>(
             self.places,
             self.slots,
             self.state.standing,
             path,
-            asked,
+            sheet.tables(),
             self.work_places,
             self.work_slots,
             self.links,

@@ -8,20 +8,14 @@ use asks::blank_from;
 use kinds::kind::Kind;
 use records::{Counts, MOST_PLACES, MOST_SLOTS, no_place, no_slot, own_numbers};
 
-// The counts of no places and no slots.
-const NOTHING: Counts = Counts {
-    places: 0,
-    slots: 0,
-};
-
 impl State {
     // The numbers of a job that was never opened.
     pub fn closed() -> State
         ensures { (result.limits.places ≡ 0) × (result.limits.slots ≡ 0) × (result.standing.places ≡ 0) × (result.standing.slots ≡ 0) }
     {
         State {
-            limits: NOTHING,
-            standing: NOTHING,
+            limits: Counts::default(),
+            standing: Counts::default(),
         }
     }
 

@@ -21,7 +21,7 @@ merge-requires-clause-stands g c = standing_formed c.args.self.now (c.in_ok-admi
 pub merge-requires-clause-own : goal.merge-requires-clause-own
 merge-requires-clause-own g c x h =
     let ready : Ready c.args.self.now c.args.path.now c.args.sheet.now = c.in_ok-admit.ensures.ready refl in
-    standing_links c.args.self.now ready.some x (omega (arith, ap length c.places.ensures, ready.places))
+    standing_links c.args.self.now ready.some x (omega (arith, ap length c.tables.ensures.places, ready.places))
 
 pub returns-in_err-counts-clause-answer : goal.returns-in_err-counts-clause-answer
 returns-in_err-counts-clause-answer g c =
@@ -32,7 +32,7 @@ returns-in_err-counts-clause-answer g c =
     let cond = merge.Clash laws (standing_sheet laws j) (ask_of laws path sheet) in
     let p = err_from_is_err_and c.from_residual-in_err-counts.result c.from_residual-in_err-counts.ensures.1 in
     let e : Err Clash ≡ c.from_residual-in_err-counts.result = sym (p.1 ∙ ap Err p.2) in
-    let clashes = asked_merge laws j path sheet None c.merge.new.places c.merge.new.slots c.places.ensures c.slots.ensures c.in_err-counts.ensures.answer in
+    let clashes = asked_merge laws j path sheet None c.merge.new.places c.merge.new.slots c.tables.ensures.places c.tables.ensures.slots c.in_err-counts.ensures.answer in
     subst (λ (r : Result Counts JobFault). Answered (add_checks j path sheet cond) (refusal fault_number r)) e (last_refuses (room_checks j path sheet) 32 cond c.in_ok-admit.ensures.answer clashes)
 
 pub returns-in_err-counts-clause-clash : goal.returns-in_err-counts-clause-clash
@@ -44,7 +44,7 @@ returns-in_err-counts-clause-clash g c =
     let cond = NoSheet laws (standing_sheet laws j) (ask_of laws path sheet) in
     let p = err_from_is_err_and c.from_residual-in_err-counts.result c.from_residual-in_err-counts.ensures.1 in
     let e : Err Clash ≡ c.from_residual-in_err-counts.result = sym (p.1 ∙ ap Err p.2) in
-    let clashes = asked_merge laws j path sheet None c.merge.new.places c.merge.new.slots c.places.ensures c.slots.ensures c.in_err-counts.ensures.answer in
+    let clashes = asked_merge laws j path sheet None c.merge.new.places c.merge.new.slots c.tables.ensures.places c.tables.ensures.slots c.in_err-counts.ensures.answer in
     subst (λ (r : Result Counts JobFault). Answered (add_checks j path sheet cond) (refusal fault_number r)) e (last_refuses (room_checks j path sheet) 32 cond c.in_ok-admit.ensures.answer (no_sheet laws j path sheet (c.in_ok-admit.ensures.ready refl) clashes))
 
 pub returns-in_err-counts-clause-refused : goal.returns-in_err-counts-clause-refused
@@ -66,8 +66,8 @@ returns-in_err-counts-clause-refused g c tidy err =
         shelf_places = refl;
         shelf_slots = refl;
       };
-      work_places = worked_same blank j.work_places.now c.merge.new.work_places _ j.state.limits.places (omega (arith, ap length c.places.ensures, ready.places)) j.place_room.2 t.work_places after.work_places;
-      work_slots = worked_same blank_slot j.work_slots.now c.merge.new.work_slots _ j.state.limits.slots (omega (arith, ap length c.slots.ensures, ready.slots)) j.slot_room.2 t.work_slots after.work_slots;
+      work_places = worked_same blank j.work_places.now c.merge.new.work_places _ j.state.limits.places (omega (arith, ap length c.tables.ensures.places, ready.places)) j.place_room.2 t.work_places after.work_places;
+      work_slots = worked_same blank_slot j.work_slots.now c.merge.new.work_slots _ j.state.limits.slots (omega (arith, ap length c.tables.ensures.slots, ready.slots)) j.slot_room.2 t.work_slots after.work_slots;
     }
 
 pub returns-in_err-counts-clause-tidy : goal.returns-in_err-counts-clause-tidy
@@ -80,8 +80,8 @@ returns-in_err-counts-clause-tidy g c tidy some =
     record {
       places = λ k l h. ap (λ xs. get_or xs k blank) after.places ∙ t.places k l h;
       slots = λ k l h. ap (λ xs. get_or xs k blank_slot) after.slots ∙ t.slots k l h;
-      work_places = worked_blank blank j.work_places.now c.merge.new.work_places _ j.state.limits.places (omega (arith, ap length c.places.ensures, ready.places)) j.place_room.2 t.work_places after.work_places;
-      work_slots = worked_blank blank_slot j.work_slots.now c.merge.new.work_slots _ j.state.limits.slots (omega (arith, ap length c.slots.ensures, ready.slots)) j.slot_room.2 t.work_slots after.work_slots;
+      work_places = worked_blank blank j.work_places.now c.merge.new.work_places _ j.state.limits.places (omega (arith, ap length c.tables.ensures.places, ready.places)) j.place_room.2 t.work_places after.work_places;
+      work_slots = worked_blank blank_slot j.work_slots.now c.merge.new.work_slots _ j.state.limits.slots (omega (arith, ap length c.tables.ensures.slots, ready.slots)) j.slot_room.2 t.work_slots after.work_slots;
       links = λ k h. ap (λ l. get_or l k 0) after.links ∙ t.links k h;
       shelf_places = t.shelf_places;
       shelf_slots = t.shelf_slots;
@@ -93,7 +93,7 @@ invariant_of-self-2-clause-sound g c some =
     let path = c.args.path.now in
     let sheet = c.args.sheet.now in
     let ready : Ready j path sheet = c.in_ok-admit.ensures.ready refl in
-    let held = asked_merge g.K.Kind.laws j path sheet (Some c.in_ok-counts.counts) c.merge.new.places c.merge.new.slots c.places.ensures c.slots.ensures c.in_ok-counts.ensures.answer in
+    let held = asked_merge g.K.Kind.laws j path sheet (Some c.in_ok-counts.counts) c.merge.new.places c.merge.new.slots c.tables.ensures.places c.tables.ensures.slots c.in_ok-counts.ensures.answer in
     ∣ record { formed = held.formed; own = λ k h. ap (λ l. get_or l k 0) c.merge.ensures.links ∙ standing_links j ready.some k h } ∣₁
 
 pub returns-clause-answer : goal.returns-clause-answer
@@ -102,7 +102,7 @@ returns-clause-answer g c =
     let j = c.args.self.now in
     let path = c.args.path.now in
     let sheet = c.args.sheet.now in
-    let held = asked_merge laws j path sheet (Some c.in_ok-counts.counts) c.merge.new.places c.merge.new.slots c.places.ensures c.slots.ensures c.in_ok-counts.ensures.answer in
+    let held = asked_merge laws j path sheet (Some c.in_ok-counts.counts) c.merge.new.places c.merge.new.slots c.tables.ensures.places c.tables.ensures.slots c.in_ok-counts.ensures.answer in
     none_refuses (room_checks j path sheet) 32 (merge.Clash laws (standing_sheet laws j) (ask_of laws path sheet)) c.in_ok-admit.ensures.answer
     (no_clash laws j path sheet (c.in_ok-admit.ensures.ready refl) _ held.merge)
 
@@ -112,7 +112,7 @@ returns-clause-clash g c =
     let j = c.args.self.now in
     let path = c.args.path.now in
     let sheet = c.args.sheet.now in
-    let held = asked_merge laws j path sheet (Some c.in_ok-counts.counts) c.merge.new.places c.merge.new.slots c.places.ensures c.slots.ensures c.in_ok-counts.ensures.answer in
+    let held = asked_merge laws j path sheet (Some c.in_ok-counts.counts) c.merge.new.places c.merge.new.slots c.tables.ensures.places c.tables.ensures.slots c.in_ok-counts.ensures.answer in
     none_refuses (room_checks j path sheet) 32 (NoSheet laws (standing_sheet laws j) (ask_of laws path sheet)) c.in_ok-admit.ensures.answer
     (some_sheet laws j path sheet (c.in_ok-admit.ensures.ready refl) _ held.merge)
 
@@ -128,8 +128,8 @@ returns-clause-tidy g c tidy some =
     record {
       places = replaced_blank blank j.places.now c.merge.new.places n c.in_ok-counts.counts.places j.state.limits.places t.places after.places;
       slots = replaced_blank blank_slot j.slots.now c.merge.new.slots m c.in_ok-counts.counts.slots j.state.limits.slots t.slots after.slots;
-      work_places = worked_blank blank j.work_places.now c.merge.new.work_places _ j.state.limits.places (omega (arith, ap length c.places.ensures, ready.places)) j.place_room.2 t.work_places after.work_places;
-      work_slots = worked_blank blank_slot j.work_slots.now c.merge.new.work_slots _ j.state.limits.slots (omega (arith, ap length c.slots.ensures, ready.slots)) j.slot_room.2 t.work_slots after.work_slots;
+      work_places = worked_blank blank j.work_places.now c.merge.new.work_places _ j.state.limits.places (omega (arith, ap length c.tables.ensures.places, ready.places)) j.place_room.2 t.work_places after.work_places;
+      work_slots = worked_blank blank_slot j.work_slots.now c.merge.new.work_slots _ j.state.limits.slots (omega (arith, ap length c.tables.ensures.slots, ready.slots)) j.slot_room.2 t.work_slots after.work_slots;
       links = λ k h. ap (λ l. get_or l k 0) after.links ∙ t.links k h;
       shelf_places = t.shelf_places;
       shelf_slots = t.shelf_slots;
