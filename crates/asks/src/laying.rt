@@ -93,10 +93,7 @@ pub fn lay_beside<F: Copy>(
     requires slots { (length standing.slots.now + length path.now + length asked.slots.now ≤ length work_slots.old) × (length standing.slots.now + length path.now + length asked.slots.now < 65536) }
     ensures { AddLaid any (tables standing.entry.places.now standing.entry.slots.now) path.now (tables asked.entry.places.now asked.entry.slots.now) (tables work_places.old work_slots.old) (tables work_places.new work_slots.new) }
 {
-    let behind = Counts {
-        places: standing.places.len(),
-        slots: standing.slots.len(),
-    };
+    let behind = standing.counts();
     copy_front(standing.places, work_places);
     copy_front(standing.slots, work_slots);
     draw_add(

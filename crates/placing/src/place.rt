@@ -103,10 +103,7 @@ fn counts_read(read: Result<Counts, ReadFault>) -> Counts
     ensures places { result.places ≡ places_read read }
     ensures slots { result.slots ≡ slots_read read }
 {
-    read.unwrap_or(Counts {
-        places: 0,
-        slots: 0,
-    })
+    read.unwrap_or_default()
 }
 
 // Reads a line of one place into the tables, and answers the counts of its sheet, or a refusal. A sheet has no more places and slots
