@@ -29,9 +29,7 @@ fn copy_moved<T: Moved>(from: &[T], to: &mut [T], by: usize)
 }
 
 // Draws the chain of a path at the front of two tables, as it is behind so many places and slots.
-// The two tables to write to are two parameters, here and below: as a struct of two `&mut` slices, each function would have to promise
-// besides that the same slices are lent still, and what a call does to a part of each table (as to `&mut slots[names..]`) could not
-// be shown to be done to the table.
+// Two tables to write to: of a struct of two `&mut` slices, what a call does to a part of one could not be shown of the table.
 fn draw_chain<F: Copy>(
     path: &[u64],
     places: &mut [PlaceRecord<F>],

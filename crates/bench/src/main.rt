@@ -6,7 +6,7 @@ use anyhow::anyhow;
 use jobs::{Job, job_over};
 use kinds::catalogue::Catalogue;
 use kinds::kind::Kind;
-use records::{no_place, no_slot};
+use records::{MOST_PLACES, MOST_SLOTS, no_place, no_slot};
 use sheets::sheet::Sheet;
 use std::env;
 use std::time::Instant;
@@ -51,11 +51,11 @@ fn shortest(
 
 // Prints how long the merge takes, and how many places and slots it has.
 fn measure(rt: &HostRuntime, title: &str, first: &Table, second: &Table) -> anyhow::Result<()> {
-    let mut places = [no_place::<Catalogue>(); 1000];
-    let mut slots = [no_slot(); 4000];
-    let mut work_places = [no_place::<Catalogue>(); 1000];
-    let mut work_slots = [no_slot(); 4000];
-    let mut links = [0u16; 1000];
+    let mut places = [no_place::<Catalogue>(); MOST_PLACES];
+    let mut slots = [no_slot(); MOST_SLOTS];
+    let mut work_places = [no_place::<Catalogue>(); MOST_PLACES];
+    let mut work_slots = [no_slot(); MOST_SLOTS];
+    let mut links = [0u16; MOST_PLACES];
     let mut job: Job<'_, Catalogue> = job_over!(
         &mut places,
         &mut slots,

@@ -20,6 +20,7 @@ struct Common {
 }
 
 // Joins the targets of every name that both `x` and `y` have.
+// That the links reach as far as the places is a clause, here and below, as the forest is: the two are lent apart, and no struct holds both.
 fn join_common<F: Copy>(sides: &Sides<'_, F>, links: &mut [u16], x: usize, y: usize) -> Common
     requires room { length sides.now.tables.places.now ≤ length links.old }
     requires forest { Forest links.old }

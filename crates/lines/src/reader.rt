@@ -5,7 +5,7 @@ ghost use Rattle.std.proofs.Props.{props};
 pub mod feeding;
 
 // The most bytes that a line may have, however long the buffer is.
-const MOST_BYTES: usize = 60_000;
+pub const MOST_BYTES: usize = 60_000;
 
 // A line has more bytes than a line may have, or than the buffer holds.
 #[derive(Clone, Copy, PartialEq, Eq, Debug)]

@@ -19,9 +19,7 @@ use records::{Counts, PlaceRecord, SlotRecord, Tables, no_place, no_slot};
 use uniting::unite;
 
 // Blanks what is left of the standing sheet past the one that was written over it.
-// The two tables to write to are two parameters, here and below: as a struct of two `&mut` slices, each function would have to promise
-// besides that the same slices are lent still, and what a call does to a part of each table (as to `&mut work_places[..all_places]`)
-// could not be shown to be done to the table.
+// Two tables to write to: of a struct of two `&mut` slices, what a call does to a part of one could not be shown of the table.
 fn blank_past<K: Kind>(
     places: &mut [PlaceRecord<K::Form>],
     slots: &mut [SlotRecord],

@@ -26,6 +26,7 @@ fn flatten(links: &[u16], ends: &mut [u16])
 
 // Writes the merge of two sheets side by side, the second from the place `second` on, and answers its counts; or says that they
 // clash, and leaves the tables to write to as they were.
+// Two tables to write to: of a struct of two `&mut` slices, what a call does to a part of one could not be shown of the table.
 pub(crate) fn unite<K: Kind>(
     work_places: &mut [PlaceRecord<K::Form>],
     work_slots: &[SlotRecord],

@@ -19,6 +19,7 @@ use records::{Counts, PlaceRecord, SlotRecord, Tables};
 
 // Writes the sheet of the classes, and answers how many places and slots it has. `ends[x]` is a place of the class of `x`, the same
 // for the whole class, and the class gets the kind that stands there.
+// Two tables to write to: of a struct of two `&mut` slices, what a call does to a part of one could not be shown of the table.
 pub fn number<F: Copy>(
     sides: Tables<'_, F>,
     ends: &[u16],

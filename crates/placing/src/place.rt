@@ -19,9 +19,7 @@ use renumbering::renumber;
 use vocabulary::vocabulary::Vocabulary;
 
 // Writes the sheet that a draft describes, and answers its counts.
-// The two tables to write to are two parameters, here and below: as a struct of two `&mut` slices, each function would have to promise
-// besides that the same slices are lent still, and what a call does to a part of each table (as to `&mut work_places[..n]`) could not
-// be shown to be done to the table.
+// Two tables to write to: of a struct of two `&mut` slices, what a call does to a part of one could not be shown of the table.
 fn write_sheet<K: Kind>(
     draft: Draft<'_, K>,
     places: &mut [PlaceRecord<K::Form>],

@@ -18,6 +18,7 @@ pub(crate) mod reader;
 mod steps;
 
 // Reads the line token by token. The tables have then the draft in their first records.
+// Two tables to write to: of a struct of two `&mut` slices, what a call does to a part of one could not be shown of the table.
 fn read_within<K: Kind, V: Vocabulary<K>>(
     line: &[u8],
     places: &mut [Place<K>],

@@ -18,6 +18,7 @@ mod verbs;
 
 // Reads the line token by token. The tables have then the draft of an add in their first records, and the table of one place has
 // the kind of a narrow.
+// Two tables to write to: of a struct of two `&mut` slices, what a call does to a part of one could not be shown of the table.
 pub(crate) fn read_form_draft<K: Kind, V: Vocabulary<K>>(
     line: &[u8],
     places: &mut [Place<K>],
@@ -36,7 +37,7 @@ pub(crate) fn read_form_draft<K: Kind, V: Vocabulary<K>>(
         first: Path::empty(),
         second: Path::empty(),
     };
-    // The loop of a draft's line again: a trait for the two would repeat in its ghost members all that `step` and `end` ensure.
+    // As a draft's line is read: a trait for both readers would say again in its ghost members all that `step` and `end` ensure.
     for x in Lexemes::new(line) {
         form = form.step::<K, V>(x?, line, &mut place, &mut kind)?;
     }

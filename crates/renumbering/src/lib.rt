@@ -13,6 +13,7 @@ use records::{Counts, MOST_PLACES, PlaceRecord, SlotRecord, Tables, own_numbers}
 
 // Writes the graph of a draft in canonical numbering, and answers its counts; or answers none where the tables hold no draft or the
 // tables to write to have no room for it, and leaves these as they were.
+// Two tables to write to: of a struct of two `&mut` slices, what a call does to a part of one could not be shown of the table.
 pub fn renumber<F: Copy>(
     draft: Tables<'_, F>,
     outp: &mut [PlaceRecord<F>],

@@ -15,8 +15,8 @@ ghost use Rattle.showing.specs.Walking.{OneText};
 use crate::fault::ShowFault;
 use crate::source::Source;
 use kinds::kind::Kind;
+use lines::reader::MOST_BYTES;
 use sheets::sheet::Sheet;
-use tokens::token::MOST_BYTES;
 use vocabulary::vocabulary::Vocabulary;
 
 pub mod fault;

@@ -37,7 +37,7 @@ impl<'a> Progress<'a> {
     }
 
     // Opens a place that was not written.
-    // `Room` stays a requirement, here and where a place is opened: a full progress is one too, so the type cannot promise it.
+    // `Room` is required, here and where a place is opened: a full progress is one too, so the type cannot promise it.
     fn enter(&mut self, p: u16, slots: &'a [SlotRecord], tagged: bool)
         requires { Room self.old × (p < 1000) }
         ensures { Entered self.old p slots.now tagged self.new }
@@ -60,8 +60,7 @@ impl<'a> Progress<'a> {
     }
 }
 
-// The progress and the output stay two parameters: held in one struct, the caller's bytes lie one struct deeper, and of these the
-// proof of `write` then learns nothing.
+// Progress and output are two parameters: in one struct the caller's bytes lie deeper, and nothing could be shown of them.
 impl<'a, K: Kind> Source<'a, K> {
     // Opens a place that was not written, and writes it up to its first slot.
     fn open_place<V: Vocabulary<K>>(

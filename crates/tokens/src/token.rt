@@ -7,12 +7,10 @@ ghost use Rattle.tokens.specs.Answers.{answer, answer_at, Shows, Checked, Gives}
 use crate::fault::TextFault;
 use crate::token::class::Class;
 use crate::token::numeral::number_of;
+use lines::reader::MOST_BYTES;
 
 mod class;
 mod numeral;
-
-// The most bytes of a line.
-pub const MOST_BYTES: usize = 60_000;
 
 // The most bytes of a word.
 const WORD_LIMIT: usize = 24;

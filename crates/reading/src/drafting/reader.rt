@@ -14,6 +14,7 @@ pub(crate) struct DraftReader<'a, K: Copy> {
     ghost held: { Held cur places.now slots.now look },
 }
 
+// Each method ensures `SameTables`: an invariant speaks of one state, and this of two.
 impl<'a, K: Copy> DraftReader<'a, K> {
     ghost use Rattle.std.specs.Prelude.{◌≡◌, ◌≤◌, length};
     ghost use Rattle.reading.specs.Drafts.{nothing};

@@ -87,7 +87,7 @@ impl Form {
                 _ => self.bracket(Round::Close, after_path(verb), x),
             },
             Stage::SecondPath => self.bracket(Round::Open, Stage::InSecondPath, x),
-            // As in the first path, but for the field and for what follows: a function for both would be given as much.
+            // As in the first path: one function for both would take the path, the field to put it in and the next stage.
             Stage::InSecondPath => match x.token {
                 Token::Word(word) => {
                     let second = push_name(self.second, word, x.start)?;
