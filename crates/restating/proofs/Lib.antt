@@ -9,4 +9,5 @@ pub mod Frames
 pub mod States
 pub mod Crossing
 pub mod Allowed
+pub mod Written
 pub mod Back
