@@ -1,8 +1,9 @@
 -- Each move of the state is a turn of the writing.
-use Rattle.std.proofs.Common.{◌≡◌, ℕ, ◌+◌, ◌*◌, ◌<◌, ◌≤◌, Bool, true, false, cond, eqb, List, [], ◌∷◌, ◌++◌, map, reverse, length, get_or, drop, set, sum_by, count_by, Some, None, Option, sym, refl, ap, ◌∙◌, subst, ⊎_elim, arith, Bor}
+use Rattle.std.proofs.Common.{◌≡◌, ℕ, zero, suc, ◌+◌, ◌-◌, ◌*◌, ◌<◌, ◌≤◌, Bool, true, false, cond, eqb, List, [], ◌∷◌, ◌++◌, map, reverse, length, get_or, take, drop, drop-cons, set, sum_by, count_by, Some, None, Option, sym, refl, ap, ◌∙◌, subst, ⊎_elim, arith}
 use Rattle.std.proofs.lemmas.List.{length-set, length-map, length-reverse, length-take, length-drop, map-append, reverse-append, nil_from_length, get_or-set_same, get_or-set_other}
 use Rattle.std.proofs.lemmas.List.Sums.{sum_by-set, sum_by-cons}
-use Rattle.std.specs.List.{All}
+use Rattle.std.specs.List.{All, slice_get}
+use Rattle.std.proofs.lemmas.Option.{slice_get_within}
 use Rattle.std.proofs.lemmas.List.Elements.{All-from_get_or}
 use Rattle.std.proofs.lemmas.Bool.{cases_eq, cases_Bool, false≢true, or_cases, or_parts, eq-eqb}
 use Rattle.kinds.specs.Laws.{KindLaws}
@@ -12,19 +13,38 @@ use Rattle.records.specs.Tables.{blank_slot, name_at, count_at, first_at}
 use Rattle.records.specs.Sheets.{Sheet, size, width, Formed}
 use Rattle.records.proofs.Shape.{target_in}
 use Rattle.vocabulary.specs.Texts.{Text}
+use Rattle.showing.specs.declared.walk.Block.{Block}
 use Rattle.showing.specs.declared.walk.Progress.{Progress}
 use Rattle.showing.specs.Shown.{tagged, tag_of, hashed, slots_of, has, naming, Walk, Shown}
 use Rattle.showing.specs.Shown.Walk.{begins, closes, refers, enters}
-use Rattle.showing.specs.Progress.{unwritten, Room, Fresh, Entered, Ended, Taken, next_tag, Right, unset, measure, opened, Reached, Going}
+use Rattle.showing.specs.Progress.{standing, unwritten, Room, Fresh, Entered, Ended, Taken, next_tag, Right, unset, measure, opened, Reached, Going}
 use Rattle.showing.proofs.Depth.{all_first, all_left, has_other, has_new, shallow, written_few}
 
 -- ---- the stack
 
-pub push_left : (stack : List (Bor (List SlotRecord))) (slots : Bor (List SlotRecord)) → reverse (map (λ r. r.now) (stack ++ slots ∷ [])) ≡ slots.now ∷ reverse (map (λ r. r.now) stack)
-push_left stack slots = ap (λ (l : List (List SlotRecord)). reverse l) (map-append (λ r. r.now) stack (slots ∷ [])) ∙ reverse-append (map (λ r. r.now) stack) (slots.now ∷ [])
+pub push_left : (ss : List SlotRecord) (stack : List Block) (b : Block) → reverse (map (λ k. standing ss k) (stack ++ b ∷ [])) ≡ standing ss b ∷ reverse (map (λ k. standing ss k) stack)
+push_left ss stack b = ap (λ (l : List (List SlotRecord)). reverse l) (map-append (λ k. standing ss k) stack (b ∷ [])) ∙ reverse-append (map (λ k. standing ss k) stack) (standing ss b ∷ [])
 
-pub unwritten_length : (w : Progress) → length (unwritten w) ≡ length w.left.items
-unwritten_length w = length-reverse (map (λ r. r.now) w.left.items) ∙ length-map w.left.items (λ r. r.now)
+-- the first slot of a block, and those after it
+pub after_first : (ss : List SlotRecord) (n c : ℕ) (x : SlotRecord) → slice_get (take c (drop n ss)) 0 ≡ Some x → take c (drop n ss) ≡ x ∷ take (c - 1) (drop (n + 1) ss)
+after_first ss n c x e =
+    let some : 0 < length (take c (drop n ss)) = slice_get_within (take c (drop n ss)) 0 x e in
+    let low : n < length ss = omega (arith, some, length-take c (drop n ss), length-drop n ss) in
+    let more : 0 < c = omega (arith, some, length-take c (drop n ss)) in
+    let y : SlotRecord = get_or ss n blank_slot in
+    let next : suc n ≡ n + 1 = omega arith in
+    let cut : drop n ss ≡ y ∷ drop (n + 1) ss = drop-cons ss n blank_slot low ∙ ap (λ (k : ℕ). y ∷ drop k ss) next in
+    let is : take c (drop n ss) ≡ y ∷ take (c - 1) (drop (n + 1) ss) = ap (λ (l : List SlotRecord). take c l) cut ∙ one c y (drop (n + 1) ss) more in
+    let same : Some y ≡ Some x = sym (ap (λ (l : List SlotRecord). slice_get l 0) is) ∙ e in
+    let first : y ≡ x = cc same in
+    is ∙ ap (λ (z : SlotRecord). z ∷ take (c - 1) (drop (n + 1) ss)) first
+  where
+    one : (c : ℕ) (y : SlotRecord) (ys : List SlotRecord) → 0 < c → take c (y ∷ ys) ≡ y ∷ take (c - 1) ys
+    one zero y ys h = absurd (omega arith)
+    one (suc c) y ys h = let e : suc c - 1 ≡ c = omega arith in ap (λ (k : ℕ). y ∷ take k ys) (sym e)
+
+pub unwritten_length : (ss : List SlotRecord) (w : Progress) → length (unwritten ss w) ≡ length w.left.items
+unwritten_length ss w = length-reverse (map (λ b. standing ss b) w.left.items) ∙ length-map w.left.items (λ b. standing ss b)
 
 -- ---- tags
 
@@ -91,7 +111,7 @@ module _ {K : Type 0} (s : Sheet K) where
 
   -- ---- the moves
 
-  right_entered : (w v : Progress) (written : List ℕ) (q : ℕ) → Right s w written → Entered w q (slots_of s q) (tagged s q) v → q < 1000 → has written q ≡ false → Right s v (written ++ (q ∷ []))
+  right_entered : (w v : Progress) (written : List ℕ) (q : ℕ) → Right s w written → Entered s.slots w q (slots_of s q) (tagged s q) v → q < 1000 → has written q ≡ false → Right s v (written ++ (q ∷ []))
   right_entered w v written q r e low none = record {
     long = ap (λ (l : List (Option ℕ)). length l) e.tags ∙ length-set w.tags q (Some w.next) ∙ r.long;
     tags = λ p l. ap (λ (l : List (Option ℕ)). get_or l p None) e.tags ∙ ⊎_elim
@@ -118,14 +138,14 @@ weight_more : (xs : List SlotRecord) (left : List (List SlotRecord)) → weight 
 weight_more xs left = sum_by-cons (λ xs. length xs + 1) xs left
 
 module _ (ss : List SlotRecord) where
-  pub falls_taken : (w v : Progress) (x : SlotRecord) → Taken w x v → measure ss v < measure ss w
+  pub falls_taken : (w v : Progress) (x : SlotRecord) → Taken ss w x v → measure ss v < measure ss w
   falls_taken w v x t =
       let tags = ap (λ (l : List (Option ℕ)). count_by unset l * (length ss + 2)) t.tags in
       let before = ap (λ (l : List (List SlotRecord)). weight l) t.before ∙ weight_more (x ∷ t.here) t.others in
       let after = ap (λ (l : List (List SlotRecord)). weight l) t.after ∙ weight_more t.here t.others in
       omega arith
 
-  pub falls_entered : (w v : Progress) (p : ℕ) (slots : List SlotRecord) (tag : Bool) → p < length w.tags → get_or w.tags p None ≡ None → length slots ≤ length ss → Entered w p slots tag v → measure ss v < measure ss w
+  pub falls_entered : (w v : Progress) (p : ℕ) (slots : List SlotRecord) (tag : Bool) → p < length w.tags → get_or w.tags p None ≡ None → length slots ≤ length ss → Entered ss w p slots tag v → measure ss v < measure ss w
   falls_entered w v p slots tag inside none few e =
       let f : Option ℕ → ℕ = λ t. cond (unset t) 1 0 in
       let was : f (get_or w.tags p None) ≡ 1 = ap f none in
@@ -133,7 +153,7 @@ module _ (ss : List SlotRecord) where
       let tags = ap (λ (l : List (Option ℕ)). count_by unset l) e.tags in
       let fewer : count_by unset v.tags + 1 ≡ count_by unset w.tags = omega arith in
       let product = ap (λ (n : ℕ). n * (length ss + 2)) fewer in
-      let left = ap (λ (l : List (List SlotRecord)). weight l) e.left ∙ weight_more slots (unwritten w) in
+      let left = ap (λ (l : List (List SlotRecord)). weight l) e.left ∙ weight_more slots (unwritten ss w) in
       omega arith
 
 module _ {K F : Type 0} {below : K → K → Type 0} {top : K} {form : K → F} {kind : F → Option K} (laws : KindLaws below top form kind) (texts : K → Text) (s : Sheet K) (formed : Formed s) (small : size s ≤ 1000) where
@@ -143,30 +163,30 @@ module _ {K F : Type 0} {below : K → K → Type 0} {top : K} {form : K → F} 
     pub right : Right s w written
     pub here : List SlotRecord
     pub others : List (List SlotRecord)
-    pub is : here ∷ others ≡ unwritten w
+    pub is : here ∷ others ≡ unwritten s.slots w
     pub walk : Walk laws texts s ((x ∷ here) ∷ others) written text
 
   pub few_open : (w : Progress) (text : List ℕ) → Going laws texts s w text → length w.left.items ≤ 1000
-  few_open w text g = omega (arith, shallow laws texts s formed g.walk, unwritten_length w)
+  few_open w text g = omega (arith, shallow laws texts s formed g.walk, unwritten_length s.slots w)
 
   -- what holds of every slot holds of the one that is taken
-  taken_all : (P : SlotRecord → Type 0) (w v : Progress) (x : SlotRecord) (text : List ℕ) → All P s.slots → Going laws texts s w text → Taken w x v → P x
+  taken_all : (P : SlotRecord → Type 0) (w v : Progress) (x : SlotRecord) (text : List ℕ) → All P s.slots → Going laws texts s w text → Taken s.slots w x v → P x
   taken_all P w v x text all g t = all_first P x t.here t.others (subst (λ (l : List (List SlotRecord)). All (λ xs. All P xs) l) t.before (all_left laws texts s formed P all g.walk))
 
-  pub taken_target : (w v : Progress) (x : SlotRecord) (text : List ℕ) → Going laws texts s w text → Taken w x v → x.target < size s
+  pub taken_target : (w v : Progress) (x : SlotRecord) (text : List ℕ) → Going laws texts s w text → Taken s.slots w x v → x.target < size s
   taken_target w v x text g t = taken_all (λ y. y.target < size s) w v x text (All-from_get_or (λ y. y.target < size s) s.slots blank_slot (target_in s formed)) g t
 
-  pub taken_name : (w v : Progress) (x : SlotRecord) (text : List ℕ) → ((i : ℕ) → i < width s → IsName (name_at s.slots i)) → Going laws texts s w text → Taken w x v → IsName x.name
+  pub taken_name : (w v : Progress) (x : SlotRecord) (text : List ℕ) → ((i : ℕ) → i < width s → IsName (name_at s.slots i)) → Going laws texts s w text → Taken s.slots w x v → IsName x.name
   taken_name w v x text named g t = taken_all (λ y. IsName y.name) w v x text (All-from_get_or (λ y. IsName y.name) s.slots blank_slot named) g t
 
-  pub going_ended : (w v : Progress) (text : List ℕ) → Going laws texts s w text → Ended w v → Going laws texts s v (text ++ (41 ∷ []))
+  pub going_ended : (w v : Progress) (text : List ℕ) → Going laws texts s w text → Ended s.slots w v → Going laws texts s v (text ++ (41 ∷ []))
   going_ended w v text g e = record {
     written = g.written;
     right = right_same s w v g.written g.right e.tags e.next;
     walk = closes (subst (λ (l : List (List SlotRecord)). Walk laws texts s l g.written text) e.left g.walk);
   }
 
-  pub paused : (w v : Progress) (x : SlotRecord) (text : List ℕ) → Going laws texts s w text → Taken w x v → Paused v x text
+  pub paused : (w v : Progress) (x : SlotRecord) (text : List ℕ) → Going laws texts s w text → Taken s.slots w x v → Paused v x text
   paused w v x text g t = record {
     written = g.written;
     right = right_same s w v g.written g.right t.tags t.next;
@@ -194,15 +214,15 @@ module _ {K F : Type 0} {below : K → K → Type 0} {top : K} {form : K → F} 
   pub room : (w : Progress) (x : SlotRecord) (text : List ℕ) → Paused w x text → x.target < 1000 → get_or w.tags x.target None ≡ None → Room w
   room w x text g low new =
       let deep = shallow laws texts s formed (enters g.walk (not_written w x text g low new)) in
-      let long = ap (λ (l : List (List SlotRecord)). length l) g.is ∙ unwritten_length w in
+      let long = ap (λ (l : List (List SlotRecord)). length l) g.is ∙ unwritten_length s.slots w in
       (omega arith, omega (arith, g.right.next, next_few s g.written, written_few laws texts s formed g.walk))
 
-  pub going_enters : (w v : Progress) (x : SlotRecord) (text : List ℕ) → Paused w x text → x.target < 1000 → get_or w.tags x.target None ≡ None → Entered w x.target (slots_of s x.target) (tagged s x.target) v → Going laws texts s v (text ++ (naming laws texts s x ++ opened laws texts s w.next x.target))
+  pub going_enters : (w v : Progress) (x : SlotRecord) (text : List ℕ) → Paused w x text → x.target < 1000 → get_or w.tags x.target None ≡ None → Entered s.slots w x.target (slots_of s x.target) (tagged s x.target) v → Going laws texts s v (text ++ (naming laws texts s x ++ opened laws texts s w.next x.target))
   going_enters w v x text g low new e =
       let q : ℕ = x.target in
       let none = not_written w x text g low new in
       let tag : tag_of s g.written q ≡ w.next = tag_next s g.written q none ∙ sym g.right.next in
-      let stack : slots_of s q ∷ (g.here ∷ g.others) ≡ unwritten v = (λ i. slots_of s q ∷ g.is i) ∙ sym e.left in
+      let stack : slots_of s q ∷ (g.here ∷ g.others) ≡ unwritten s.slots v = (λ i. slots_of s q ∷ g.is i) ∙ sym e.left in
       record {
         written = g.written ++ (q ∷ []);
         right = right_entered s w v g.written q g.right e low none;
@@ -225,10 +245,10 @@ module _ {K F : Type 0} {below : K → K → Type 0} {top : K} {form : K → F} 
   falls_reached w v p piece (Some tag) inside is r = omega (arith, ap (λ (u : Progress). measure s.slots u) r.1)
   falls_reached w v p piece None inside is r = omega (arith, falls_entered s.slots w v p (slots_of s p) (tagged s p) inside is (few_slots p) r.1)
 
-  pub going_begins : (w v : Progress) → Fresh w → Entered w 0 (slots_of s 0) (tagged s 0) v → Going laws texts s v (opened laws texts s w.next 0)
+  pub going_begins : (w v : Progress) → Fresh w → Entered s.slots w 0 (slots_of s 0) (tagged s 0) v → Going laws texts s v (opened laws texts s w.next 0)
   going_begins w v f e =
       let r : Right s w [] = record { long = f.long; tags = f.tags; next = f.next } in
-      let stack : slots_of s 0 ∷ [] ≡ unwritten v = (λ i. slots_of s 0 ∷ reverse (map (λ r. r.now) (sym f.none i))) ∙ sym e.left in
+      let stack : slots_of s 0 ∷ [] ≡ unwritten s.slots v = (λ i. slots_of s 0 ∷ reverse (map (λ b. standing s.slots b) (sym f.none i))) ∙ sym e.left in
       record {
         written = 0 ∷ [];
         right = right_entered s w v [] 0 r e (omega arith) refl;
@@ -240,5 +260,5 @@ module _ {K F : Type 0} {below : K → K → Type 0} {top : K} {form : K → F} 
   pub going_ends : (w : Progress) (text : List ℕ) → Going laws texts s w text → length w.left.items ≡ 0 → Shown laws texts s text
   going_ends w text g none = record {
     written = g.written;
-    walk = subst (λ (l : List (List SlotRecord)). Walk laws texts s l g.written text) (nil_from_length (unwritten w) (unwritten_length w ∙ none)) g.walk;
+    walk = subst (λ (l : List (List SlotRecord)). Walk laws texts s l g.written text) (nil_from_length (unwritten s.slots w) (unwritten_length s.slots w ∙ none)) g.walk;
   }

@@ -38,8 +38,8 @@ is_sheet {K} {F} {kind} source =
     shows_sheet view rooted
 
 -- the same place opened, by other names of its slots and of whether it has a tag
-pub entered_as : {w v : Progress} {p : ℕ} {xs ys : List SlotRecord} {a b : Bool} → xs ≡ ys → a ≡ b → Entered w p xs a v → Entered w p ys b v
-entered_as {w} e f h = record { left = h.left ∙ (λ i. e i ∷ unwritten w); tags = h.tags; next = h.next ∙ (λ i. cond (f i) (w.next + 1) w.next) }
+pub entered_as : {ss : List SlotRecord} {w v : Progress} {p : ℕ} {xs ys : List SlotRecord} {a b : Bool} → xs ≡ ys → a ≡ b → Entered ss w p xs a v → Entered ss w p ys b v
+entered_as {ss} {w} e f h = record { left = h.left ∙ (λ i. e i ∷ unwritten ss w); tags = h.tags; next = h.next ∙ (λ i. cond (f i) (w.next + 1) w.next) }
 
 pub marked_then : (b : Bool) (n : ℕ) → marked (then_some b n) ≡ cond b (hashed n (32 ∷ [])) []
 marked_then true n = refl
@@ -74,29 +74,29 @@ module _ {K F : Type 0} {kind : Ghosts K F} (texts : K → Text) (source : Sourc
   pub open_few : (w : Progress) → Begun laws texts s w → length w.left.items ≤ 1000
   open_few w b = few_open laws texts s formed small w b.text b.going
 
-  pub slot_target : (w u : Progress) (x : SlotRecord) → Begun laws texts s w → Taken w x u → x.target < length ps
+  pub slot_target : (w u : Progress) (x : SlotRecord) → Begun laws texts s w → Taken ss w x u → x.target < length ps
   slot_target w u x b t = omega (arith, taken_target laws texts s formed small w u x b.text b.going t, same_size laws ps)
 
-  pub slot_name : (w u : Progress) (x : SlotRecord) → Begun laws texts s w → Taken w x u → IsName x.name
+  pub slot_name : (w u : Progress) (x : SlotRecord) → Begun laws texts s w → Taken ss w x u → IsName x.name
   slot_name w u x b t = taken_name laws texts s formed small w u x b.text (is_sheet source).named b.going t
 
-  slot_low : (w u : Progress) (x : SlotRecord) → Begun laws texts s w → Taken w x u → x.target < 1000
+  slot_low : (w u : Progress) (x : SlotRecord) → Begun laws texts s w → Taken ss w x u → x.target < 1000
   slot_low w u x b t = omega (arith, slot_target w u x b t, (is_sheet source).few_places)
 
-  pub slot_room : (w u : Progress) (x : SlotRecord) → Begun laws texts s w → Taken w x u → get_or u.tags x.target None ≡ None → Room u
+  pub slot_room : (w u : Progress) (x : SlotRecord) → Begun laws texts s w → Taken ss w x u → get_or u.tags x.target None ≡ None → Room u
   slot_room w u x b t new = room laws texts s formed small u x b.text (paused laws texts s formed small w u x b.text b.going t) (slot_low w u x b t) new
 
-  pub since_ended : (w v : Progress) (old new : Output) → Ended w v → Adds (41 ∷ []) old new → Since laws texts s w v old new
+  pub since_ended : (w v : Progress) (old new : Output) → Ended ss w v → Adds (41 ∷ []) old new → Since laws texts s w v old new
   since_ended w v old new e adds = record { piece = 41 ∷ []; adds = adds; going = λ text g. going_ended laws texts s formed small w v text g e }
 
-  pub since_slot : (w u v : Progress) (x : SlotRecord) (old new : Output) → Begun laws texts s w → Taken w x u → Visited laws texts s x u v old new → Since laws texts s w v old new
+  pub since_slot : (w u v : Progress) (x : SlotRecord) (old new : Output) → Begun laws texts s w → Taken ss w x u → Visited laws texts s x u v old new → Since laws texts s w v old new
   since_slot w u v x old new b t h = record {
     piece = naming laws texts s x ++ h.piece;
     adds = h.adds;
     going = λ text g. going_reached laws texts s formed small u v x text h.piece (get_or u.tags x.target None) refl h.reached (paused laws texts s formed small w u x text g t) (slot_low w u x b t);
   }
 
-  pub falls_slot : (w u v : Progress) (x : SlotRecord) (old new : Output) → Begun laws texts s w → Taken w x u → Visited laws texts s x u v old new → measure ss v < measure ss w
+  pub falls_slot : (w u v : Progress) (x : SlotRecord) (old new : Output) → Begun laws texts s w → Taken ss w x u → Visited laws texts s x u v old new → measure ss v < measure ss w
   falls_slot w u v x old new b t h =
       let r = (paused laws texts s formed small w u x b.text b.going t).right in
       omega (arith, falls_taken ss w u x t, falls_reached laws texts s formed small u v x.target h.piece (get_or u.tags x.target None) (omega (arith, r.long, slot_low w u x b t)) refl h.reached)
@@ -121,7 +121,7 @@ module _ {K F : Type 0} {kind : Ghosts K F} (texts : K → Text) (source : Sourc
   begun_since w v first new b c = record { text = b.text ++ c.piece; going = c.going b.text b.going }
 
   -- the first place is opened
-  pub going_first : (w v : Progress) → Fresh w → Entered w 0 (slots_of s 0) (tagged s 0) v → Going laws texts s v (opened laws texts s w.next 0)
+  pub going_first : (w v : Progress) → Fresh w → Entered ss w 0 (slots_of s 0) (tagged s 0) v → Going laws texts s v (opened laws texts s w.next 0)
   going_first w v f e = going_begins laws texts s formed small w v f e
 
   -- no place is open any more

@@ -14,6 +14,7 @@ ghost use Rattle.showing.specs.Walking.{OneText};
 
 use crate::fault::ShowFault;
 use crate::source::Source;
+use crate::walk::Progress;
 use kinds::kind::Kind;
 use lines::reader::MOST_BYTES;
 use sheets::sheet::Sheet;
@@ -43,9 +44,11 @@ pub fn show<K: Kind, V: Vocabulary<K>>(
     if source.count_tags() > MOST_TAGS {
         return Err(ShowFault::TooManyTags);
     }
-    let length = source.write::<V>(&mut []);
+    let mut progress = Progress::new();
+    let length = source.write::<V>(&mut progress, &mut []);
     if length > MOST_BYTES || length > out.len() {
         return Err(ShowFault::TooLong);
     }
-    Ok(source.write::<V>(out))
+    progress.restart();
+    Ok(source.write::<V>(&mut progress, out))
 }

@@ -38,13 +38,15 @@ impl<'a> Output<'a> {
         self.len = self.len.saturating_add(1);
     }
 
-    // Writes bytes as they are.
+    // Writes bytes as they are: at once, so far as the output reaches.
     fn put_all(&mut self, bytes: &[u8])
         ensures { Adds bytes.now self.old self.new }
     {
-        for byte in bytes {
-            self.put(*byte);
-        }
+        let end = self.len.saturating_add(bytes.len());
+        let from = self.len.min(self.bytes.len());
+        let upto = end.min(self.bytes.len());
+        self.bytes[from..upto].copy_from_slice(&bytes[..upto - from]);
+        self.len = end;
     }
 
     // Writes a number in base ten, after a minus where it is below 0.

@@ -1,6 +1,7 @@
-use Rattle.std.proofs.Common.{◌≡◌, ℕ, Bool, cond, [], ◌∷◌, ◌++◌, get_or, sym, ap, ◌∙◌, arith}
+use Rattle.std.proofs.Common.{◌≡◌, ℕ, ◌<◌, Bool, cond, [], ◌∷◌, ◌++◌, length, get_or, take, drop, sym, ap, ◌∙◌, arith}
 use Rattle.std.proofs.lemmas.List.{get_or-map}
 use Rattle.kinds.specs.Laws.{loaded}
+use Rattle.records.specs.Tables.{first_at, count_at}
 use Rattle.records.specs.Sheets.{kind_of}
 use Rattle.records.proofs.Reading.{kind_read}
 use Rattle.vocabulary.specs.Texts.{bytes}
@@ -12,7 +13,15 @@ use Rattle.showing.proofs.Stepping.{entered_as, block_read, marked_then}
 use Rattle.showing.proofs.source.Source.open_place.Goals as goal
 
 pub returns-clause-state : goal.returns-clause-state
-returns-clause-state g c = entered_as (c.slots_of.ensures ∙ block_read g.V.Vocabulary.texts c.args.self.now c.args.p) c.has_tag-tagged.ensures c.enter.ensures
+returns-clause-state g c =
+    let p : ℕ = c.args.p in
+    let ps = c.args.self.now.tables.places.now in
+    let ss = c.args.self.now.tables.slots.now in
+    let place = get_or ps p c.index-self-p.result in
+    let inside : p < length ps = c.requires.within in
+    let first : place.before ≡ first_at ps p = sym (get_or-map (λ r. r.before) ps p c.index-self-p.result 0 inside) in
+    let count : place.count ≡ count_at ps p = sym (get_or-map (λ r. r.count) ps p c.index-self-p.result 0 inside) in
+    entered_as ((λ i. take (count i) (drop (first i) ss)) ∙ block_read g.V.Vocabulary.texts c.args.self.now p) c.has_tag-tagged.ensures (c.enter.ensures ss)
 
 pub returns-clause-adds : goal.returns-clause-adds
 returns-clause-adds g c =

@@ -9,7 +9,7 @@ put_slot-requires g c =
     let texts = g.V.Vocabulary.texts in
     let source = c.args.self.now in
     let w = c.args.progress.now in
-    let u = c.next_slot.new.self in
+    let u = c.next_slot.new.progress in
     record {
       within = slot_target texts source w u c.in-Some.slot c.requires.begun c.in-Some.ensures;
       named = slot_name texts source w u c.in-Some.slot c.requires.begun c.in-Some.ensures;
@@ -21,7 +21,7 @@ returns-in-Some g c =
     let texts = g.V.Vocabulary.texts in
     let source = c.args.self.now in
     let w = c.args.progress.now in
-    let u = c.next_slot.new.self in
+    let u = c.next_slot.new.progress in
     let v = c.put_slot.new.progress in
     record {
       since = since_slot texts source w u v c.in-Some.slot c.args.output.now c.put_slot.new.output c.requires.begun c.in-Some.ensures c.put_slot.ensures;
@@ -29,4 +29,4 @@ returns-in-Some g c =
     }
 
 pub returns-in-None-clause-since : goal.returns-in-None-clause-since
-returns-in-None-clause-since g c = since_ended g.V.Vocabulary.texts c.args.self.now c.args.progress.now c.next_slot.new.self c.args.output.now c.put.new.self c.in-None.ensures c.put.ensures
+returns-in-None-clause-since g c = since_ended g.V.Vocabulary.texts c.args.self.now c.args.progress.now c.next_slot.new.progress c.args.output.now c.put.new.self c.in-None.ensures c.put.ensures

@@ -12,7 +12,7 @@ pub step-requires : goal.step-requires
 step-requires g c =
     let texts = g.V.Vocabulary.texts in
     let source = c.args.self.now in
-    let going = going_first texts source c.new-progress.result c.open_place.new.progress c.new-progress.ensures c.open_place.ensures.state in
+    let going = going_first texts source c.args.progress.now c.open_place.new.progress c.requires c.open_place.ensures.state in
     record {
       begun = begun_since texts source c.open_place.new.progress c.loop-progress.progress c.open_place.new.output c.loop-progress.output (record { text = _; going = going }) c.loop-progress.invariant;
       some = omega (arith, eqb-false (length c.loop-progress.progress.left.items) 0 (sym c.loop-progress-test.ensures));
@@ -27,8 +27,8 @@ pub returns : goal.returns
 returns g c =
     let texts = g.V.Vocabulary.texts in
     let source = c.args.self.now in
-    let first = opened g.K.Kind.laws texts (held source) c.new-progress.result.next 0 in
-    let going = going_first texts source c.new-progress.result c.open_place.new.progress c.new-progress.ensures c.open_place.ensures.state in
+    let first = opened g.K.Kind.laws texts (held source) c.args.progress.now.next 0 in
+    let going = going_first texts source c.args.progress.now c.open_place.new.progress c.requires c.open_place.ensures.state in
     let since = c.loop-progress.invariant in
     let same = sym (since.adds.same ∙ c.open_place.ensures.adds.same ∙ c.new-output.ensures.same) in
     let holds = since.adds.more c.args.out.now first (c.open_place.ensures.adds.more c.args.out.now [] c.new-output.ensures.empty) in
