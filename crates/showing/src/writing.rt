@@ -49,12 +49,15 @@ impl<'a> Output<'a> {
         self.len = end;
     }
 
-    // Writes a number in base ten, after a minus where it is below 0.
+    // Writes a number in base ten, after a minus where it is below 0. Its digits are put one by one: most numbers are tags, of one or two.
     fn put_number<I: Integer>(&mut self, n: I)
         ensures { Adds (I.text n) self.old self.new }
     {
         let mut buffer = Buffer::new();
-        self.put_all(buffer.format(n).as_bytes());
+        let digits = buffer.format(n).as_bytes();
+        for digit in digits {
+            self.put(*digit);
+        }
     }
 
     // Writes a range of a kind.
