@@ -1,10 +1,10 @@
 -- The end of a place in a forest.
-use Rattle.std.proofs.Common.{◌≡◌, ℕ, zero, suc, ◌<◌, ◌≤◌, min, max, not, cond, eqb, nat_eq, List, length, get_or, set, sum, sym, refl, ap, ◌∙◌, inl, inr, ⊎_elim, arith}
+use Rattle.std.proofs.Common.{◌≡◌, ℕ, zero, suc, ◌<◌, ◌≤◌, min, max, cond, eqb, List, ◌≢◌, length, get_or, set, sum, sym, refl, ap, ◌∙◌, inl, inr, ⊎_elim, arith}
 use native.Mathlib.Decide.{le_ind}
-use Rattle.std.proofs.lemmas.List.{get_or-set_same, get_or-set_other, get_or_default, set-get_or}
+use Rattle.std.proofs.lemmas.List.{get_or-set_same, get_or-set_other, get_or_default}
 use Rattle.std.proofs.lemmas.List.Sums.{sum_by-set}
-use Rattle.std.proofs.lemmas.Bool.{eq-eqb, ne_eqb, cases_eq, cases_order}
-use Rattle.joining.specs.Forest.{Forest, link, walk, end, Merges, Tells}
+use Rattle.std.proofs.lemmas.Bool.{eq-eqb, ne_eqb, cases_eq, cases_lt}
+use Rattle.joining.specs.Forest.{Forest, link, walk, end, Merges}
 
 module _ (links : List ℕ) (forest : Forest links) where
   walk_le : (k x : ℕ) → walk k links x ≤ x
@@ -136,43 +136,13 @@ link_up links forest x y lo hi ex ey below within =
     rw read
     (linked_merges links forest lo hi below within low high x y (sym ex) (sym ey), linked_less links forest lo hi below within low high)
 
--- one write of the lower end over the higher makes the two one, and changes nothing where they are one
-ends_joined : (links : List ℕ) → Forest links → (x y a b lo hi : ℕ) → a ≡ end links x → b ≡ end links y → lo ≡ min a b → hi ≡ max a b → hi < length links
-    → Merges links (set links hi (get_or links lo 0)) x y × Tells (not (nat_eq a b)) links (set links hi (get_or links lo 0))
-ends_joined links forest x y a b lo hi ea eb el eh within =
-    ⊎_elim one (⊎_elim less more) (cases_order a b)
-  where
-    Made : Type 0
-    Made = Merges links (set links hi (get_or links lo 0)) x y × Tells (not (nat_eq a b)) links (set links hi (get_or links lo 0))
-
-    one : a ≡ b → Made
-    one e =
-        let at : hi ≡ lo = omega arith in
-        let same : set links hi (get_or links lo 0) ≡ links = ap (λ k. set links k (get_or links lo 0)) at ∙ set-get_or links lo 0 in
-        let low : min (end links x) (end links y) ≡ end links x = omega arith in
-        rw same (
-          record {
-            forest = forest;
-            joined = λ z h. ⊎_elim (λ f. f ∙ sym low) (λ f. f ∙ (omega arith)) h;
-            others = λ z nx ny. refl;
-          },
-          rw (eq-eqb a b e) refl,
-        )
-
-    less : a < b → Made
-    less l =
-        let h = link_up links forest x y lo hi (omega arith) (omega arith) (omega arith) within in
-        (h.0, rw (ne_eqb a b (λ e. omega arith)) h.1)
-
-    more : b < a → Made
-    more l =
-        let h = link_up links forest y x lo hi (omega arith) (omega arith) (omega arith) within in
-        (merges_turned h.0, rw (ne_eqb a b (λ e. omega arith)) h.1)
-
-pub ends_merged : (links : List ℕ) → Forest links → (x y a b lo hi : ℕ) → a ≡ end links x → b ≡ end links y → lo ≡ min a b → hi ≡ max a b → hi < length links
-    → Merges links (set links hi (get_or links lo 0)) x y
-ends_merged links forest x y a b lo hi ea eb el eh within = (ends_joined links forest x y a b lo hi ea eb el eh within).0
-
-pub ends_told : (links : List ℕ) → Forest links → (x y a b lo hi : ℕ) → a ≡ end links x → b ≡ end links y → lo ≡ min a b → hi ≡ max a b → hi < length links
-    → Tells (not (nat_eq a b)) links (set links hi (get_or links lo 0))
-ends_told links forest x y a b lo hi ea eb el eh within = (ends_joined links forest x y a b lo hi ea eb el eh within).1
+-- one write of the lower end over the higher makes two ends one
+pub ends_joined : (links : List ℕ) → Forest links → (x y a b lo hi : ℕ) → a ≡ end links x → b ≡ end links y → a ≢ b → lo ≡ min a b → hi ≡ max a b → hi < length links
+    → Merges links (set links hi (get_or links lo 0)) x y × (sum (set links hi (get_or links lo 0)) < sum links)
+ends_joined links forest x y a b lo hi ea eb ne el eh within =
+    ⊎_elim
+    (λ less. link_up links forest x y lo hi (omega arith) (omega arith) (omega arith) within)
+    (λ more.
+    let h = link_up links forest y x lo hi (omega (arith, ne)) (omega (arith, ne)) (omega (arith, ne)) within in
+    (merges_turned h.0, h.1))
+    (cases_lt a b)

@@ -1,7 +1,7 @@
 -- The walk over the slots of two places, x and y, at i and j.
-use Rattle.std.proofs.Common.{◌≡◌, ℕ, suc, ◌+◌, ◌-◌, ◌<◌, ◌≤◌, Bool, true, false, ◌||◌, ◌⊎◌, List, ◌∷◌, length, get_or, take, drop, sym, refl, ap, ◌∙◌, subst, subst₂, inl, inr, ⊎_elim, arith}
+use Rattle.std.proofs.Common.{◌≡◌, ℕ, suc, ◌+◌, ◌-◌, ◌<◌, ◌≤◌, Bool, true, false, ◌||◌, ◌⊎◌, List, [], ◌∷◌, length, get_or, slice_index_or, take, drop, sym, refl, ap, ◌∙◌, subst, subst₂, inl, inr, ⊎_elim, arith}
 use Rattle.std.proofs.Math.Seq.{drop-cons}
-use Rattle.std.proofs.lemmas.List.{get_or-take, get_or_default, length-drop, length-take, length-take-le}
+use Rattle.std.proofs.lemmas.List.{get_or-take, get_or_default, length-drop, length-take, length-take-le, take_all}
 use Rattle.std.proofs.lemmas.Slice.{between_is}
 use Rattle.std.proofs.lemmas.Bool.{cases_eq, cases_lt, cases_order, both_ways}
 use Rattle.records.specs.declared.PlaceRecord.{PlaceRecord}
@@ -30,6 +30,13 @@ rest_all ss from count h =
       },
       k,
     )
+
+-- a list that is not empty: its first item, and the rest as a pattern takes it
+pub first_and_rest : {A : Type 0} (d : A) (xs : List A) → 1 ≤ length xs → xs ≡ slice_index_or xs 0 d ∷ take (length xs - 1) (drop 1 xs)
+first_and_rest d [] h = absurd (omega arith)
+first_and_rest d (x ∷ xs) h =
+    let n : length (x ∷ xs) - 1 ≡ length xs = omega arith in
+    ap (λ l. x ∷ l) (sym (take_all (length xs) xs (omega arith)) ∙ ap (λ k. take k xs) (sym n))
 
 -- the first of what is left, and the rest of it
 pub record Next {A : Type 0} (ss : List A) (past : ℕ) (x : A) (xs ys : List A) : Type 0 where

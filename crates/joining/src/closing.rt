@@ -9,7 +9,6 @@ use crate::links::join;
 use crate::rings::put;
 use crate::sides::Sides;
 use records::MOST_PLACES;
-use std::cmp::Ordering;
 
 // What came of two places: whether anything was joined, and whether the second has every name that the first has. (Each may hold
 // without the other.)
@@ -35,18 +34,16 @@ fn join_common<F: Copy>(sides: &Sides<'_, F>, links: &mut [u16], x: usize, y: us
     let mut right = sides.tables.slots_of(y);
     let mut changed = false;
     let mut all = true;
-    while let (Some((s, after_s)), Some((t, after_t))) = (left.split_first(), right.split_first()) {
-        match s.name.cmp(&t.name) {
-            Ordering::Less => {
-                all = false;
-                left = after_s;
-            }
-            Ordering::Greater => right = after_t,
-            Ordering::Equal => {
-                changed |= join(links, s.target as usize, t.target as usize);
-                left = after_s;
-                right = after_t;
-            }
+    while let ([s, after_s @ ..], [t, after_t @ ..]) = (left, right) {
+        if s.name < t.name {
+            all = false;
+            left = after_s;
+        } else if t.name < s.name {
+            right = after_t;
+        } else {
+            changed |= join(links, s.target as usize, t.target as usize);
+            left = after_s;
+            right = after_t;
         }
     }
     all &= left.is_empty();

@@ -28,6 +28,10 @@ pub(crate) fn join(links: &mut [u16], x: usize, y: usize) -> bool
 {
     let a = end_of(links, x);
     let b = end_of(links, y);
+    // Where they are one already, nothing is written: the next walk then waits for no write.
+    if a == b {
+        return false;
+    }
     links[a.max(b)] = links[a.min(b)];
-    a != b
+    true
 }
