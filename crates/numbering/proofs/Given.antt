@@ -1,5 +1,5 @@
 -- The numbers given so far.
-use Rattle.std.proofs.Common.{◌≡◌, ℕ, ◌<◌, List, [], ◌∷◌, ◌++◌, length, replicate, set, sym, refl, ap, ◌∙◌, ◌≢◌, arith}
+use Rattle.std.proofs.Common.{◌≡◌, ℕ, ◌<◌, List, [], ◌∷◌, ◌++◌, length, replicate, set, sym, refl, ap, ◌∙◌, subst, ◌≢◌, arith}
 use Rattle.std.specs.Prelude.{Option, Some, None}
 use native.Mathlib.Decide.{dec_lt}
 use Rattle.std.proofs.lemmas.List.{get_or_append_left, get_or_push, length_push, get_or-set_same, get_or-set_other, get_or-replicate, length-replicate, get_or_past}
@@ -56,23 +56,19 @@ module _ (o : List ℕ) (number : List (Option ℕ)) (known : Known o number) wh
           grind (arith, same, other, only u k, get_or_append_left o (v ∷ []) 0 k, get_or_push o v 0 k),
         )
 
--- one number is given
-module _ (n v : ℕ) (h : v < n) where
-  empty : List (Option ℕ)
-  empty = replicate n None
+-- a table of no numbers has none
+pub nothing : (n u : ℕ) → link (replicate n None) u ≡ None
+nothing n u =
+    elim (dec_lt u n) [
+      | yes lt ↦ get_or-replicate n u None None lt
+      | no ge ↦ get_or_past (replicate n None) u None (omega (arith, length-replicate {A = Option ℕ} n None))
+    ]
 
-  free : (u : ℕ) → link empty u ≡ None
-  unfolding empty
-  free u =
-      elim (dec_lt u n) [
-        | yes lt ↦ get_or-replicate n u None None lt
-        | no ge ↦ get_or_past (replicate n None) u None (omega (arith, length-replicate {A = Option ℕ} n None))
-      ]
+alone : (m v j : ℕ) → j ≡ 0 → at (m ∷ []) j ≡ v → m ≡ v
+alone m v j e h = subst (λ k. at (m ∷ []) k ≡ v) e h
 
-  pub known_root : Known (v ∷ []) (set (replicate n None) v (Some 0))
-  unfolding empty
-  known_root = known_more [] empty (λ k l. absurd (omega arith)) v (free v) (omega (arith, length-replicate {A = Option ℕ} n None))
-
-  pub only_root : Only (v ∷ []) (set (replicate n None) v (Some 0))
-  unfolding empty
-  only_root = only_more [] empty (λ k l. absurd (omega arith)) v (free v) (omega (arith, length-replicate {A = Option ℕ} n None)) (λ u k s. let z = free u in absurd cc)
+-- the first number that is given
+pub extended_root : {o more : List ℕ} {v j : ℕ} → o ≡ [] → Extended o v j more → more ≡ v ∷ []
+extended_root {more = []} e x = absurd (omega (arith, x.size))
+extended_root {more = m ∷ []} {v = v} {j = j} e x = ap (λ k. k ∷ []) (alone m v j (omega (arith, x.near, ap length e)) x.is)
+extended_root {more = m ∷ (n ∷ ns)} e x = absurd (omega (arith, x.size, x.near, ap length e))

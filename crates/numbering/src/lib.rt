@@ -14,8 +14,8 @@ ghost use Rattle.std.specs.Prelude.{◌≤◌, length, take};
 ghost use Rattle.numbering.specs.Quotient.{Quotient, Work, at, Kept};
 ghost use Rattle.numbering.specs.Sides.{Assembled, Ready};
 
-use classes::Classes;
-use records::{Counts, PlaceRecord, SlotRecord, Tables};
+use classes::{Classes, list_places};
+use records::{Counts, MOST_PLACES, PlaceRecord, SlotRecord, Tables};
 
 // Writes the sheet of the classes, and answers how many places and slots it has. `ends[x]` is a place of the class of `x`, the same
 // for the whole class, and the class gets the kind that stands there.
@@ -33,7 +33,16 @@ pub fn number<F: Copy>(
     ensures within { (result.places ≤ length sides.entry.places.now) × (result.slots ≤ length sides.entry.slots.now) }
     ensures kept { (Kept result.places outp.old outp.new) × (Kept result.slots outs.old outs.new) }
 {
-    Classes::new(sides, ends).write(outp, outs)
+    let mut last = [None; MOST_PLACES];
+    let mut previous = [None; MOST_PLACES];
+    list_places(ends, sides.places.len(), &mut last, &mut previous);
+    let classes = Classes {
+        tables: sides,
+        ends,
+        last: &last,
+        previous: &previous,
+    };
+    classes.write(outp, outs)
 }
 
 // What the merge of two sheets rests on: side by side, with the classes of joined places, they meet what `number` requires, and what

@@ -17,16 +17,14 @@ pub(crate) struct Numbers {
 }
 
 impl Numbers {
-    // The class whose end is `v` has the number 0, and no other class has one.
-    pub(crate) fn root_only(v: u16) -> Numbers
-        requires { v < 1000 }
-        ensures { result.order.items ≡ v ∷ [] }
+    // No class has a number yet.
+    pub(crate) fn none() -> Numbers
+        ensures { result.order.items ≡ [] }
     {
-        let mut order = ArrayVec::new();
-        order.push(v);
-        let mut number = [None; MOST_PLACES];
-        number[v as usize] = Some(0);
-        Numbers { order, number }
+        Numbers {
+            order: ArrayVec::new(),
+            number: [None; MOST_PLACES],
+        }
     }
 
     // The end of the class of the number `p`.
